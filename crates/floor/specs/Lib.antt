@@ -1,0 +1,4 @@
+pub mod Lists
+pub mod Position
+pub mod Meaning
+pub mod Planar

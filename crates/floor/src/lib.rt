@@ -1,0 +1,2 @@
+//! A storey: its nodes, the map that places them, and which links a planariser blocks.
+pub mod node;

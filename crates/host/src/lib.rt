@@ -1,0 +1,2 @@
+//! Hosts: who hears whom.
+pub mod sides;

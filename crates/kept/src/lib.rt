@@ -1,0 +1,2 @@
+//! Kept links, over any host and any planariser.
+pub mod around;

@@ -1,0 +1,13 @@
+pub mod Sets
+pub mod Walking
+pub mod Parity
+pub mod Orbit
+pub mod ParityLaw
+pub mod FaceParity
+pub mod Progress
+pub mod Best
+pub mod Onward
+pub mod Count
+pub mod Rounds
+pub mod Run
+pub mod Darts
