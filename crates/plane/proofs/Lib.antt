@@ -20,3 +20,4 @@ pub mod Between
 pub mod EntryDarts
 pub mod Crossings
 pub mod Direction
+pub mod Sizes

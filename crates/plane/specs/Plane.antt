@@ -40,3 +40,7 @@ farthest = 32767
 -- a point of the map: both coordinates in range
 abbrev pub InRange : Point → Type 0
 InRange p = (p .x ≤ farthest) × (p .y ≤ farthest)
+
+-- no turn, inner product or squared distance of lawful points is larger in size
+abbrev pub largest : ℕ
+largest = 2147352578
