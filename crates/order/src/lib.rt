@@ -1,4 +1,11 @@
 //! What comes before what, and the foremost of a sequence of offers.
+ghost use mathlib.Core.Path.{_≡_};
+ghost use Prim.Native.Nat.{_<_};
+ghost use Rattle.order.specs.Places.{nearer};
+use keeper::Order;
+
+pub mod direction;
+pub mod keeper;
 
 /// Which way round a node.
 #[derive(Clone, Copy)]
@@ -19,4 +26,15 @@ pub enum Start {
 pub struct Place {
     pub above: u32,
     pub below: u32,
+}
+
+/// The place nearest the target comes first.
+pub impl Order for Place as PlaceOrder {
+    ghost before = { nearer };
+
+    ghost proper = { λ p. 0 < p .below };
+
+    fn comes_before(&self, other: &Place) -> bool {
+        u64::from(other.above) * u64::from(self.below) < u64::from(self.above) * u64::from(other.below)
+    }
 }

@@ -21,3 +21,4 @@ pub mod EntryDarts
 pub mod Crossings
 pub mod Direction
 pub mod Sizes
+pub mod PlaneLaws

@@ -1,9 +1,10 @@
 -- Points with a weight. A node of the plane has weight 1, a direction has weight 0, the point (E·s + C·t)/(C + E) has weight C + E.
 -- All sign rules are of `det`, so one proof serves points, directions and places.
 use mathlib.Core.Path.{_≡_}
-use mathlib.Core.Bool.{Bool, true, false, not, cond}
+use mathlib.Core.Bool.{Bool, true, false, not, cond, _&&_, _||_}
 use lib.IntN.{ℤ, pos, _+ℤ_, _-ℤ_, _*ℤ_}
 use lib.Signed.{ltZ}
+use Rattle.plane.specs.Laws.{_⊕_}
 use Rattle.plane.proofs.Vectors.{Vector}
 
 pub record Site : Type 0 where
@@ -24,17 +25,15 @@ place C E s t = record { x = E *ℤ s .x +ℤ C *ℤ t .x; y = E *ℤ s .y +ℤ 
 abbrev pub det : Site → Site → Site → ℤ
 det p q r = p .h *ℤ (q .x *ℤ r .y -ℤ q .y *ℤ r .x) +ℤ q .h *ℤ (r .x *ℤ p .y -ℤ r .y *ℤ p .x) +ℤ r .h *ℤ (p .x *ℤ q .y -ℤ p .y *ℤ q .x)
 
+-- the words of Booleans, as functions
 abbrev pub xor : Bool → Bool → Bool
-xor true b = not b
-xor false b = b
+xor a b = a ⊕ b
 
 abbrev pub and : Bool → Bool → Bool
-and true b = b
-and false b = false
+and a b = a && b
 
 abbrev pub or : Bool → Bool → Bool
-or true b = true
-or false b = b
+or a b = a || b
 
 -- most of three
 abbrev pub most : Bool → Bool → Bool → Bool

@@ -3,6 +3,7 @@ ghost use mathlib.Core.Bool.{true};
 ghost use mathlib.Core.Path.{_≡_};
 ghost use Prim.Native.Nat.{_≤_};
 ghost use lib.IntN.{pos, natAbs, _+ℤ_, _-ℤ_, _*ℤ_};
+ghost use Rattle.plane.specs.Laws.{PlaneLaws};
 ghost use Rattle.plane.specs.Plane.{turn, inner, squared, InRange, largest};
 
 /// A point of a storey, in whole centimetres.
@@ -59,4 +60,10 @@ pub fn squared_distance(a: Point, b: Point) -> i64
     ensures bound { λ r. ⌜ (InRange a → InRange b → natAbs r ≤ largest) ⌝ }
 {
     inner_product(b, b, a)
+}
+
+/// The laws of the plane that the proofs about links and faces rest on.
+pub fn plane_laws()
+    ensures { λ _. ⌜ PlaneLaws ⌝ }
+{
 }
