@@ -1,1 +1,12 @@
 pub mod Ground
+pub mod Past
+pub mod BestSoFar
+pub mod Sends
+pub mod Few
+pub mod Entry
+pub mod Trail
+pub mod States
+pub mod Closing
+pub mod NextSend
+pub mod Opening
+pub mod RunLaw

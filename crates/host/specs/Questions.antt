@@ -1,6 +1,5 @@
 -- What a host is asked, and what a switching alters.
 use mathlib.Core.Bool.{Bool}
-use mathlib.Core.List.{List}
 use Prim.Native.Nat.{ℕ}
 use lib.Dec.{leb}
 use lib.ListN.{set}

@@ -2,6 +2,7 @@ ghost use mathlib.Core.Path.{_≡_};
 ghost use mathlib.Core.Bool.{true, false};
 ghost use lib.ListN.{length};
 ghost use Rattle.floor.specs.Meaning.{Meaning, Mapped, radio};
+ghost use Rattle.host.specs.Laws.{SwitchedBack};
 ghost use Rattle.host.specs.Questions.{next-neighbour, with-mark};
 use floor::node::Node;
 use floor::node::Radio;
@@ -36,3 +37,8 @@ pub trait Switching: Reading {
     fn restore(&mut self, i: u8)
         ensures { λ _. ⌜ Self·Reading .meaning (now (self .exit)) ≡ with-mark (Self·Reading .meaning (now (self .entry))) i true ⌝ };
 }
+
+/// What holds of every switching: a node that is switched back is as it was, and so is everything else.
+pub fn switching_laws()
+    ensures { λ _. ⌜ SwitchedBack ⌝ }
+{}

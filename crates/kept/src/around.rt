@@ -1,6 +1,8 @@
 ghost use mathlib.Core.Path.{_≡_};
 ghost use mathlib.Core.List.{List};
+ghost use mathlib.Core.Logic.{_≢_};
 ghost use lib.Dec.{eqb};
+ghost use Rattle.std.specs.declared.option.Option.the-variants.{Some, None};
 ghost use Rattle.plane.specs.Plane.{way};
 ghost use Rattle.floor.specs.declared.node.Node.{Node};
 ghost use Rattle.floor.specs.Lists.{find};
@@ -23,9 +25,11 @@ pub trait Surroundings {
 
     /// The kept neighbour of that number.
     fn known(&self, number: u8) -> Option<Node>
-        ensures { λ r. ⌜ r ≡ find (λ (n : Node). eqb (n .number) number) (near (now (self .entry))) ⌝ };
+        ensures found { λ r. ⌜ r ≡ find (λ (n : Node). eqb (n .number) number) (near (now (self .entry))) ⌝ }
+        ensures elsewhere { λ r. ⌜ ((n : Node) → r ≡ Some n → n .point ≢ here (now (self .entry)) .point) ⌝ };
 
-    /// The kept neighbour that is first round the node from the direction of a point.
+    /// The kept neighbour that is first round the node from the direction of another point.
     fn first(&self, sense: Sense, start: Start, towards: Point) -> Option<Node>
-        ensures { λ r. ⌜ r ≡ first-round sense start (here (now (self .entry)) .point) (way (here (now (self .entry)) .point) towards) (near (now (self .entry))) ⌝ };
+        ensures nowhere { λ r. ⌜ (towards ≡ here (now (self .entry)) .point → r ≡ None) ⌝ }
+        ensures found { λ r. ⌜ (towards ≢ here (now (self .entry)) .point → r ≡ first-round sense start (here (now (self .entry)) .point) (way (here (now (self .entry)) .point) towards) (near (now (self .entry)))) ⌝ };
 }

@@ -1,2 +1,5 @@
 //! Kept links, over any host and any planariser.
 pub mod around;
+pub mod bearing;
+pub mod laws;
+pub mod view;

@@ -1,3 +1,4 @@
 pub mod Foremost
 pub mod Directions
 pub mod Places
+pub mod Arcs

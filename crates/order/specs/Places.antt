@@ -1,6 +1,6 @@
 -- Places along the way from a source to a target.
 use mathlib.Core.Bool.{Bool}
-use Prim.Native.Nat.{ℕ, _*_}
+use Prim.Native.Nat.{_*_}
 use lib.Dec.{ltb}
 use Rattle.order.specs.declared.Place.{Place}
 

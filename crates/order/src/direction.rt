@@ -1,9 +1,10 @@
 //! Directions round a node, ordered by their angles from a start.
-ghost use mathlib.Core.Logic.{_⊎_};
+ghost use mathlib.Core.Logic.{_⊎_, _≢_};
 ghost use mathlib.Core.Path.{_≡_};
 ghost use lib.IntN.{_*ℤ_};
 ghost use Rattle.std.specs.declared.option.Option.the-variants.{Some, None};
 ghost use Rattle.plane.specs.Plane.{way};
+ghost use Rattle.order.specs.Arcs.{ArcLaws};
 ghost use Rattle.order.specs.Directions.{direction, earlier, part};
 use crate::Sense;
 use crate::Start;
@@ -24,7 +25,7 @@ impl Direction {
     /// The direction from `at` to `to`, turned to from the direction of `start`; there is none from a point to itself.
     pub fn new(at: Point, start: Point, to: Point, sense: Sense, counts: Start) -> Option<Direction>
         ensures none { λ r. ⌜ ((start ≡ at) ⊎ (to ≡ at) → r ≡ None) ⌝ }
-        ensures made { λ r. ⌜ (¬ (start ≡ at) → ¬ (to ≡ at) → r ≡ Some (direction sense counts (way at start) (way at to))) ⌝ }
+        ensures made { λ r. ⌜ (start ≢ at → to ≢ at → r ≡ Some (direction sense counts (way at start) (way at to))) ⌝ }
     {
         if start.is(at) || to.is(at) {
             return None;
@@ -33,10 +34,14 @@ impl Direction {
             Sense::Clockwise => turn(at, to, start),
             Sense::Counter => turn(at, start, to),
         };
-        Some(Direction { along: inner_product(start, to, at), across, counts })
+        Some(Direction {
+            along: inner_product(start, to, at),
+            across,
+            counts,
+        })
     }
 
-    // How far round it lies.
+    // How far round it lies: 0 at the start, 1 before half a turn, 2 at half a turn, 3 beyond, 4 at a full turn.
     fn sector(&self) -> u8
         ensures { λ r. ⌜ r ≡ part (now (self .entry)) ⌝ }
     {
@@ -73,3 +78,8 @@ pub impl Order for Direction as DirectionOrder {
         i < j || i == j && product(self.across, other.along) < product(self.along, other.across)
     }
 }
+
+/// The laws of directions round a point that the proofs about faces rest on.
+pub fn arc_laws()
+    ensures { λ _. ⌜ ArcLaws ⌝ }
+{}

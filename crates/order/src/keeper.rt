@@ -1,8 +1,10 @@
 //! An order, and a keeper of the foremost of what it is offered.
 ghost use mathlib.Core.Path.{_≡_};
 ghost use mathlib.Core.Bool.{Bool, true, false};
+ghost use mathlib.Core.List.{[]};
+ghost use Rattle.std.specs.Options.{Cases as BySome};
 ghost use Rattle.std.specs.declared.option.Option.the-variants.{None};
-ghost use Rattle.order.specs.Foremost.{offered, returned};
+ghost use Rattle.order.specs.Foremost.{offered, returned, foremost, In, First};
 
 /// What comes before what; two items may tie.
 pub trait Order {
@@ -13,9 +15,10 @@ pub trait Order {
 
     law irreflexive: { (x : Self) → before x x ≡ false };
 
-    // law transitive: { (x y z : Self) → proper x → proper y → proper z → before x y ≡ true → before y z ≡ true → before x z ≡ true };
+    law transitive: { (x y z : Self) → proper x → proper y → proper z → before x y ≡ true → before y z ≡ true → before x z ≡ true };
 
-    // law alike: { (x y z : Self) → proper x → proper y → proper z → before x y ≡ false → before y x ≡ false → (before x z ≡ before y z) × (before z x ≡ before z y) };
+    // two that tie compare alike with every third
+    law alike: { (x y z : Self) → proper x → proper y → proper z → before x y ≡ false → before y x ≡ false → (before x z ≡ before y z) × (before z x ≡ before z y) };
 
     /// Whether this comes before the other.
     fn comes_before(&self, other: &Self) -> bool
@@ -44,7 +47,11 @@ impl<T: Order> Keeper<T> {
             None => true,
             Some(held) => x.comes_before(held),
         };
-        if foremost { self.held.replace(x) } else { Some(x) }
+        if foremost {
+            self.held.replace(x)
+        } else {
+            Some(x)
+        }
     }
 
     /// What is held at the end.
@@ -54,4 +61,16 @@ impl<T: Order> Keeper<T> {
         let Keeper { held } = self;
         held
     }
+}
+
+/// The foremost of a row: the first of its items that none of them comes before. An empty row has none.
+pub fn foremost_of<T: Order + Copy>(row: &[T]) -> Option<T>
+    ensures value { λ r. ⌜ r ≡ foremost (T·Order .before) (now (row .entry)) ⌝ }
+    ensures first { λ r. ⌜ (((y : T) → In y (now (row .entry)) → T·Order .proper y) → BySome r (now (row .entry) ≡ []) (λ w. First (T·Order .before) (now (row .entry)) w)) ⌝ }
+{
+    let mut keeper = Keeper::new();
+    for x in row {
+        let _back = keeper.offer(*x);
+    }
+    keeper.into_held()
 }

@@ -24,8 +24,8 @@ pub enum Start {
 /// Where a link crosses the way from source to target: it divides that way as `above` to `below`.
 #[derive(Clone, Copy)]
 pub struct Place {
-    pub above: u32,
-    pub below: u32,
+    pub above: u64,
+    pub below: u64,
 }
 
 /// The place nearest the target comes first.
@@ -35,6 +35,7 @@ pub impl Order for Place as PlaceOrder {
     ghost proper = { λ p. 0 < p .below };
 
     fn comes_before(&self, other: &Place) -> bool {
-        u64::from(other.above) * u64::from(self.below) < u64::from(self.above) * u64::from(other.below)
+        u128::from(other.above) * u128::from(self.below)
+            < u128::from(self.above) * u128::from(other.below)
     }
 }

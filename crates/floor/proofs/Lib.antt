@@ -1,0 +1,4 @@
+pub mod Lists
+pub mod Lines
+pub mod Charting
+pub mod DiscInLune

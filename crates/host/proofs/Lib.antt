@@ -1,0 +1,4 @@
+pub mod Radios
+pub mod Links
+pub mod Bits
+pub mod Mending
