@@ -1,4 +1,16 @@
 pub mod Ground
+pub mod Nodes
+pub mod Around
+pub mod Links
+pub mod Rotations
+pub mod Spots
+pub mod Floors
+pub mod Winding
+pub mod Opening
+pub mod Counting
+pub mod OddAtSource
+pub mod OddAtLink
+pub mod Geometry
 pub mod Past
 pub mod BestSoFar
 pub mod Sends
@@ -8,5 +20,6 @@ pub mod Trail
 pub mod States
 pub mod Closing
 pub mod NextSend
-pub mod Opening
+pub mod FirstRecord
 pub mod RunLaw
+pub mod Running

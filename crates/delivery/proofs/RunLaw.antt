@@ -25,7 +25,7 @@ use Rattle.delivery.proofs.Entry.{dart-keeps}
 use Rattle.delivery.proofs.Trail.{AtMostFour}
 use Rattle.delivery.proofs.States.{Stands, below, seldom-so-far, in-hand}
 use Rattle.delivery.proofs.NextSend.{dart-of, next-send}
-use Rattle.delivery.proofs.Opening.{opened-is, opened-home, opens-rightly}
+use Rattle.delivery.proofs.FirstRecord.{opened-is, opened-home, opens-rightly}
 
 -- ---- words
 

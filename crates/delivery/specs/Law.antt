@@ -6,9 +6,9 @@ use Prim.Native.Nat.{ℕ, _*_, _≤_, _<_}
 use lib.Dec.{T}
 use Rattle.std.specs.declared.option.Option.{Option}
 use Rattle.std.specs.declared.option.Option.the-variants.{Some, None}
-use Rattle.floor.specs.declared.node.Radio.{Radio}
 use Rattle.floor.specs.Lists.{iterate}
-use Rattle.floor.specs.Meaning.{Meaning, Serving, Joined, radio}
+use Rattle.floor.specs.Meaning.{Meaning, Serving, Joined}
+pub use Rattle.floor.specs.Meaning.{serving}
 use Rattle.floor.specs.Planar.{Blocks, Lawful}
 use Rattle.kept.specs.Kept.{Kept, kept-links}
 use Rattle.face.specs.declared.record.Link.{Link}
@@ -16,14 +16,6 @@ use Rattle.face.specs.declared.record.Record.{Record}
 use Rattle.face.specs.declared.record.End.{End}
 use Rattle.face.specs.declared.record.End.the-variants.{UnderWay, Delivered, Unreachable}
 use Rattle.face.specs.Packet.{send, opening}
-
-abbrev pub marked-serving : Option Radio → Bool
-marked-serving None = false
-marked-serving (Some p) = p .serving
-
--- node i is in service
-abbrev pub serving : Meaning → ℕ → Bool
-serving m i = marked-serving (radio m i)
 
 -- the record after n sends
 abbrev pub after-sends : Blocks → Meaning → ℕ → Record → Record
@@ -57,9 +49,12 @@ pub record Standing (b : Blocks) (m : Meaning) (s t n : ℕ) (r : Record) : Type
 abbrev pub Made : Blocks → Meaning → ℕ → Record → Type 0
 Made b m n r = (i : ℕ) → i < n → after-sends b m i r .end ≡ UnderWay
 
--- a send takes the packet from u to v: the holder after it is v
 -- EVERY RUN: over every meaning in general position (nodes in service alone), every lawful planariser, every source and target in service
 abbrev pub EveryRun : Type 0
 EveryRun =
     (b : Blocks) (m : Meaning) → Lawful b → Serving m → (s t : ℕ) → serving m s ≡ true → serving m t ≡ true
     → (r : Record) → opening b m s t ≡ Some r → (n : ℕ) → Made b m n r → Standing b m s t n (after-sends b m n r)
+
+-- ended: delivered, and a chain of radio links joins source and target; or unreachable, and none does
+abbrev pub EndsRightly : Meaning → ℕ → ℕ → Record → Type 0
+EndsRightly m s t r = ((r .end ≡ Delivered) × Joined m s t) ⊎ ((r .end ≡ Unreachable) × ¬ Joined m s t)

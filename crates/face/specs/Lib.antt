@@ -1,2 +1,5 @@
 pub mod Crossing
 pub mod Packet
+pub mod Worked
+pub mod Arrival
+pub mod Hand

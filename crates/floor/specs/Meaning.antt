@@ -1,6 +1,6 @@
 -- A host's meaning: its nodes and their reach; neighbours, and what chains of radio links join.
 use mathlib.Core.Path.{_≡_}
-use mathlib.Core.Bool.{Bool, cond, not, _&&_}
+use mathlib.Core.Bool.{Bool, false, cond, not, _&&_}
 use mathlib.Core.List.{List, [], _∷_}
 use Prim.Native.Nat.{ℕ, suc, _*_, _≤_}
 use lib.IntN.{pos}
@@ -34,6 +34,14 @@ point-at m i = place-of (radio m i)
 abbrev pub serving-place : Option Radio → Option Point
 serving-place None = None
 serving-place (Some r) = cond (r .serving) (Some (r .point)) None
+
+abbrev pub serves : Option Radio → Bool
+serves None = false
+serves (Some r) = r .serving
+
+-- node i is in service
+abbrev pub serving : Meaning → ℕ → Bool
+serving m i = serves (radio m i)
 
 -- where node i is, if it is in service
 abbrev pub serving-at : Meaning → ℕ → Option Point

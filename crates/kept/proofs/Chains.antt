@@ -1,22 +1,21 @@
 -- Chains of kept links join what chains of radio links join
-use mathlib.Core.Path.{_≡_, refl, sym, subst, ap, ap₂, _∙_}
-use mathlib.Core.Bool.{Bool, true, false}
+use mathlib.Core.Path.{_≡_, sym, subst, ap₂, _∙_}
+use mathlib.Core.Bool.{true}
 use mathlib.Core.Logic.{_⊎_, inl, inr}
 use Prim.Native.Nat.{ℕ, zero, suc}
 use native.Mathlib.Omega.{arith}
 use lib.IntN.{ℤ, pos, negsuc, natAbs}
-use lib.Signed.{_≤ℤ_, leZ, ltZ}
+use lib.Signed.{_≤ℤ_, ltZ}
 use lib.Dec.{T}
 use borrow.Author.Differences.{ints}
-use Rattle.plane.specs.declared.Point.{Point}
 use Rattle.plane.specs.Plane.{way, squared}
 use Rattle.plane.proofs.Positive.{square-nonneg, add-nonneg}
-use Rattle.floor.specs.Meaning.{Meaning, Serving, Joined, serving-at}
+use Rattle.floor.specs.Meaning.{Meaning, Serving, Joined}
 use Rattle.floor.specs.Planar.{Blocks, Lawful}
+use Rattle.floor.proofs.DiscInLune.{squared-turned}
 use Rattle.kept.specs.Kept.{Kept}
 use Rattle.kept.specs.Laws.{Near, Chained, KeptChainsJoin}
-use Rattle.kept.proofs.Lists.{holds}
-use Rattle.kept.proofs.Near.{near, near-back, squared-back}
+use Rattle.kept.proofs.Near.{near, near-back}
 use Rattle.kept.proofs.Graph.{blocked-or-kept, blocks-near, kept-clear}
 
 module _ (b : Blocks) (m : Meaning) where
@@ -42,7 +41,7 @@ module _ (b : Blocks) (m : Meaning) where
         go (inl (w, t, d, e)) more =
             let (x, y, xp, xq, yp, yq, (a, c)) = blocks-near b m l g u v w s (t .q) (λ f. t .apart (sym f)) d (t .at-v) e in
             let first : T (ltZ (squared (x .p) (x .q)) (pos n)) =
-            subst (λ z. T (ltZ z (pos n))) (squared-back (t .q) (s .p) ∙ sym (ap₂ squared xp xq)) (less (squared (t .q) (s .p)) (squared (s .p) (s .q)) n a h) in
+            subst (λ z. T (ltZ z (pos n))) (squared-turned (t .q) (s .p) ∙ sym (ap₂ squared xp xq)) (less (squared (t .q) (s .p)) (squared (s .p) (s .q)) n a h) in
             let second : T (ltZ (squared (y .q) (y .p)) (pos n)) =
             subst (λ z. T (ltZ z (pos n))) (sym (ap₂ squared yq yp)) (less (squared (t .q) (s .q)) (squared (s .p) (s .q)) n c h) in
             chain-joined (more u w x first) (more w v (near-back m v w y) second)

@@ -1,9 +1,8 @@
 -- Kept links are the radio links that no node in service blocks
 use mathlib.Core.Path.{_≡_, refl, sym, subst, ap, ap₂, _∙_}
 use mathlib.Core.Bool.{Bool, true, false, not, _&&_, true≢false}
-use mathlib.Core.List.{List, [], _∷_}
-use mathlib.Core.Logic.{_⊎_, inl, inr, _↔_, _≢_}
-use Prim.Native.Nat.{ℕ, zero, suc, _+_, _*_}
+use mathlib.Core.Logic.{_⊎_, inl, inr, _≢_}
+use Prim.Native.Nat.{ℕ, _*_}
 use native.Mathlib.Omega.{arith}
 use lib.IntN.{ℤ, pos}
 use lib.Signed.{leZ, ltZ}
@@ -16,12 +15,13 @@ use Rattle.plane.specs.Plane.{squared}
 use Rattle.floor.specs.declared.node.Node.{Node}
 use Rattle.floor.specs.declared.node.Radio.{Radio}
 use Rattle.floor.specs.Lists.{differ, some-is}
-use Rattle.floor.specs.Meaning.{Meaning, Serving, radio, neighbours, is-among, serving-at}
-use Rattle.floor.specs.Planar.{Blocks, Lawful, relative}
-use Rattle.kept.specs.Kept.{Kept, kept, kept-of, kept-neighbours}
+use Rattle.floor.specs.Meaning.{Meaning, Serving, radio, neighbours, serving-at}
+use Rattle.floor.specs.Planar.{Blocks, Lawful}
+use Rattle.floor.proofs.DiscInLune.{squared-turned}
+use Rattle.kept.specs.Kept.{Kept, kept-of, kept-neighbours}
 use Rattle.kept.specs.Laws.{Near, Clear, KeptExactly, KeptIsSymmetric}
 use Rattle.kept.proofs.Lists.{Has, holds, told, alike, fails, some-found, found-some, those-has, has-those}
-use Rattle.kept.proofs.Near.{differ-apart, apart-differ, is-same, same-is, both, pair, same-some, serving-radio, radio-serving, neighbours-has, has-neighbours, near-back, squared-back, one-point}
+use Rattle.kept.proofs.Near.{differ-apart, apart-differ, is-same, same-is, both, pair, same-some, serving-radio, neighbours-has, has-neighbours, near-back, one-point}
 
 module _ (b : Blocks) (m : Meaning) where
   -- w, a neighbour of u, blocks the link u v
@@ -105,7 +105,7 @@ module _ (b : Blocks) (m : Meaning) (l : Lawful b) (g : Serving m) where
           at-u = s .at-u;
           at-v = e;
           apart = λ f. wu (sym f);
-          close = subst (λ z. T (leZ z (pos (m .reach * m .reach)))) (squared-back r (s .p)) (shorter (squared r (s .p)) (squared (s .p) (s .q)) (pos (m .reach * m .reach)) x (s .close));
+          close = subst (λ z. T (leZ z (pos (m .reach * m .reach)))) (squared-turned r (s .p)) (shorter (squared r (s .p)) (squared (s .p) (s .q)) (pos (m .reach * m .reach)) x (s .close));
         },
         record {
           p = s .q;
@@ -113,7 +113,7 @@ module _ (b : Blocks) (m : Meaning) (l : Lawful b) (g : Serving m) where
           at-u = s .at-v;
           at-v = e;
           apart = λ f. wv (sym f);
-          close = subst (λ z. T (leZ z (pos (m .reach * m .reach)))) (squared-back r (s .q)) (shorter (squared r (s .q)) (squared (s .p) (s .q)) (pos (m .reach * m .reach)) y (s .close));
+          close = subst (λ z. T (leZ z (pos (m .reach * m .reach)))) (squared-turned r (s .q)) (shorter (squared r (s .q)) (squared (s .p) (s .q)) (pos (m .reach * m .reach)) y (s .close));
         },
         refl,
         refl,

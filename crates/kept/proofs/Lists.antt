@@ -1,9 +1,10 @@
 -- What is in a list, and what its tests tell
 use mathlib.Core.Path.{_≡_, refl, sym, subst, ap, _∙_}
-use mathlib.Core.Bool.{Bool, true, false, cond, not, _||_, true≢false}
+use mathlib.Core.Bool.{Bool, true, false, cond, _||_, true≢false}
 use mathlib.Core.List.{List, [], _∷_}
 use mathlib.Core.Logic.{_⊎_, inl, inr}
 use lib.Dec.{T}
+pub use Rattle.order.specs.Foremost.{In as Has}
 use Rattle.floor.specs.Lists.{those, some-is}
 
 -- the two readings of a test that holds
@@ -25,10 +26,6 @@ fails {b = true} n = absurd (n refl)
 fails {b = false} n = refl
 
 module _ {A : Type 0} where
-  abbrev pub Has : A → List A → Type 0
-  Has x [] = ⊥
-  Has x (y ∷ ys) = (x ≡ y) ⊎ Has x ys
-
   pub some-found : (test : A → Bool) (xs : List A) → some-is test xs ≡ true → (x : A) × Has x xs × (test x ≡ true)
   some-found test [] e = absurd (true≢false (sym e))
   some-found test (x ∷ xs) e = go (test x) refl e (λ h. some-found test xs h)

@@ -2,11 +2,11 @@
 use mathlib.Core.Path.{_≡_, refl, sym, subst, ap, ap₂, _∙_}
 use mathlib.Core.Bool.{Bool, true, false, cond, not, _&&_, true≢false}
 use mathlib.Core.List.{List, [], _∷_}
-use mathlib.Core.Logic.{_⊎_, inl, inr, _↔_}
+use mathlib.Core.Logic.{inl, inr}
 use Prim.Native.Nat.{ℕ, zero, suc, _+_, _*_}
 use native.Mathlib.Omega.{arith}
 use native.Mathlib.Nat.{zero-add}
-use lib.IntN.{ℤ, pos}
+use lib.IntN.{pos}
 use lib.Signed.{leZ}
 use lib.Dec.{T, eqb}
 use borrow.Author.Tests.{eqb-true, eq-eqb, apart-eqb, eqb-apart}
@@ -14,13 +14,11 @@ use Rattle.std.specs.declared.option.Option.{Option}
 use Rattle.std.specs.declared.option.Option.the-variants.{Some, None}
 use Rattle.plane.specs.declared.Point.{Point}
 use Rattle.plane.specs.Plane.{squared}
-use Rattle.plane.proofs.Vectors.{Vector, dot, diff, position}
-use Rattle.plane.proofs.Ring.{ring}
-use Rattle.plane.proofs.Identities.{diffᵉ, dotᵉ, A, B, env}
 use Rattle.floor.specs.declared.node.Node.{Node}
 use Rattle.floor.specs.declared.node.Radio.{Radio}
-use Rattle.floor.specs.Lists.{differ, nth, some-is}
+use Rattle.floor.specs.Lists.{differ, nth}
 use Rattle.floor.specs.Meaning.{Meaning, radio, neighbours, heard, heard-by, hear, is-among, serving-at, serving-place}
+use Rattle.floor.proofs.DiscInLune.{squared-turned}
 use Rattle.kept.specs.Laws.{Near, NeighboursAreNear}
 use Rattle.kept.proofs.Lists.{Has, holds, told, some-found, found-some}
 
@@ -165,12 +163,6 @@ near m u v = (come, go)
     go s = told (found-some (λ (n : Node). not (differ (n .number) v)) (neighbours m u) (record { number = v; point = s .q }) (has-neighbours m u v s) (same-is v v refl))
 
 -- ---- the other way round
-squares : (a b : Vector) → dot (diff b a) (diff b a) ≡ dot (diff a b) (diff a b)
-squares a b = ring (env a b a a) (dotᵉ (diffᵉ B A) (diffᵉ B A)) (dotᵉ (diffᵉ A B) (diffᵉ A B)) tt
-
-pub squared-back : (a b : Point) → squared a b ≡ squared b a
-squared-back a b = squares (position a) (position b)
-
 abbrev pub near-back : (m : Meaning) (u v : ℕ) → Near m u v → Near m v u
 near-back m u v s = record {
   p = s .q;
@@ -178,7 +170,7 @@ near-back m u v s = record {
   at-u = s .at-v;
   at-v = s .at-u;
   apart = λ e. s .apart (sym e);
-  close = subst (λ z. T (leZ z (pos (m .reach * m .reach)))) (squared-back (s .p) (s .q)) (s .close);
+  close = subst (λ z. T (leZ z (pos (m .reach * m .reach)))) (squared-turned (s .p) (s .q)) (s .close);
 }
 
 -- a node in service has one point

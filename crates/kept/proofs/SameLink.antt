@@ -1,6 +1,6 @@
 -- Kept links that cross a way at one place are the same link
-use mathlib.Core.Path.{_≡_, refl, sym, subst, ap, ap₂, _∙_}
-use mathlib.Core.Bool.{Bool, true, false, true≢false}
+use mathlib.Core.Path.{_≡_, sym, subst, ap, _∙_}
+use mathlib.Core.Bool.{true, true≢false}
 use mathlib.Core.Logic.{_⊎_, inl, inr}
 use Prim.Native.Nat.{ℕ, _*_}
 use native.Mathlib.Decide.{ℕ-discrete}
@@ -10,17 +10,15 @@ use Rattle.std.specs.declared.option.Option.the-variants.{Some}
 use Rattle.plane.specs.declared.Point.{Point}
 use Rattle.plane.specs.Plane.{turn}
 use Rattle.plane.proofs.Vectors.{position}
-use Rattle.plane.proofs.Sites.{crossing}
-use Rattle.plane.proofs.General.{Off}
 use Rattle.plane.proofs.SamePlace.{Level}
 use Rattle.plane.proofs.SamePlace as plane
 use Rattle.floor.specs.Meaning.{Meaning, Serving, serving-at}
 use Rattle.floor.specs.Planar.{Blocks, Lawful}
 use Rattle.kept.specs.Kept.{Kept}
-use Rattle.kept.specs.Laws.{cross-over, same-place, SamePlaceSameLink}
+use Rattle.kept.specs.Laws.{strictly-cross, same-place, SamePlaceSameLink}
 use Rattle.kept.proofs.Near.{one-point}
 use Rattle.kept.proofs.Graph.{kept-clear, kept-back}
-use Rattle.kept.proofs.Crossing.{at, three-off, cross-off, cross-is, cross-sites, cross-back, size-back, do-not-cross}
+use Rattle.kept.proofs.Crossing.{three-off, cross-off, cross-is, cross-sites, cross-back, size-back, do-not-cross}
 
 level : (s t a b c d : Point) → same-place s t a b c d → Level (position s) (position t) (position a) (position b) (position c) (position d)
 level s t a b c d e = ap pos (e ∙ mul-comm (natAbs (turn c d s)) (natAbs (turn a b t)))
@@ -38,7 +36,7 @@ module _ (b : Blocks) (m : Meaning) (l : Lawful b) (g : Serving m) (s t : Point)
     pub at-i : serving-at m i ≡ Some p
     pub at-j : serving-at m j ≡ Some q
     pub kept : Kept b m i j
-    pub over : cross-over s t p q ≡ true
+    pub over : strictly-cross s t p q ≡ true
 
   back : {i j : ℕ} {p q : Point} → Over i j p q → Over j i q p
   back {i = i} {j = j} {p = p} {q = q} h =
@@ -58,7 +56,7 @@ module _ (b : Blocks) (m : Meaning) (l : Lawful b) (g : Serving m) (s t : Point)
       go (yes f) = f
       go (no n) =
           let (a, _, c, d) = cross-off s t p q (x .over) in
-          let over′ : cross-over s t p w ≡ true = ap (λ (z : Point). cross-over s t z w) (sym same) ∙ y .over in
+          let over′ : strictly-cross s t p w ≡ true = ap (λ (z : Point). strictly-cross s t z w) (sym same) ∙ y .over in
           let (_, _, c′, d′) = cross-off s t p w over′ in
           absurd (plane.same-place-shared (position s) (position t) (position p) (position q) (position w) a c d c′ d′
           (three-off b m l g i o j p w q (λ f. ends y (sym ik ∙ f)) (ends x) (λ f. n (sym f)) (x .at-i) (y .at-j) (x .at-j))

@@ -6,7 +6,6 @@ use Prim.Native.Nat.{ℕ, _*_}
 use lib.IntN.{pos, natAbs, _*ℤ_}
 use lib.Signed.{leZ, ltZ}
 use lib.Dec.{T}
-use Rattle.std.specs.declared.option.Option.{Option}
 use Rattle.std.specs.declared.option.Option.the-variants.{Some}
 use Rattle.plane.specs.declared.Point.{Point}
 use Rattle.plane.specs.Plane.{turn, squared}
@@ -46,14 +45,14 @@ abbrev pub KeptIsSymmetric : Type 0
 KeptIsSymmetric = (b : Blocks) (m : Meaning) → Lawful b → Serving m → (u v : ℕ) → is-among (kept-neighbours b m u) v ≡ is-among (kept-neighbours b m v) u
 
 -- a b and c d cross: the ends of each on opposite sides of the other
-abbrev pub cross-over : Point → Point → Point → Point → Bool
-cross-over a b c d = ltZ (turn a b c *ℤ turn a b d) (pos 0) && ltZ (turn c d a *ℤ turn c d b) (pos 0)
+abbrev pub strictly-cross : Point → Point → Point → Point → Bool
+strictly-cross a b c d = ltZ (turn a b c *ℤ turn a b d) (pos 0) && ltZ (turn c d a *ℤ turn c d b) (pos 0)
 
 abbrev pub KeptLinksDoNotCross : Type 0
 KeptLinksDoNotCross =
     (b : Blocks) (m : Meaning) → Lawful b → Serving m → (i j k l : ℕ) (p q r s : Point)
     → serving-at m i ≡ Some p → serving-at m j ≡ Some q → serving-at m k ≡ Some r → serving-at m l ≡ Some s
-    → Kept b m i j → Kept b m k l → cross-over p q r s ≡ false
+    → Kept b m i j → Kept b m k l → strictly-cross p q r s ≡ false
 
 -- a chain of kept links
 pub data Chained (b : Blocks) (m : Meaning) : ℕ → ℕ → Type 0 where
@@ -73,7 +72,7 @@ abbrev pub SamePlaceSameLink : Type 0
 SamePlaceSameLink =
     (b : Blocks) (m : Meaning) → Lawful b → Serving m → (s t i j k l : ℕ) (a z p q r o : Point)
     → serving-at m s ≡ Some a → serving-at m t ≡ Some z → serving-at m i ≡ Some p → serving-at m j ≡ Some q → serving-at m k ≡ Some r → serving-at m l ≡ Some o
-    → Kept b m i j → Kept b m k l → cross-over a z p q ≡ true → cross-over a z r o ≡ true → same-place a z p q r o
+    → Kept b m i j → Kept b m k l → strictly-cross a z p q ≡ true → strictly-cross a z r o ≡ true → same-place a z p q r o
     → ((i ≡ k) × (j ≡ l)) ⊎ ((i ≡ l) × (j ≡ k))
 
 pub record KeptLaws : Type 0 where

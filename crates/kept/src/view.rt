@@ -42,14 +42,28 @@ fn is_blocked<R: Reading, P: Planariser>(host: &R, planariser: &P, u: Node, v: N
 }
 
 // Whether neighbour `v` has that number and the link to it is kept.
-fn is_kept_as<R: Reading, P: Planariser>(host: &R, planariser: &P, u: Node, v: Node, number: u8) -> bool
+fn is_kept_as<R: Reading, P: Planariser>(
+    host: &R,
+    planariser: &P,
+    u: Node,
+    v: Node,
+    number: u8,
+) -> bool
     ensures { λ r. ⌜ r ≡ eqb (v .number) number && not (blocked (P·Planariser .blocking (now (planariser .entry))) (u .point) v (neighbours (R·Reading .meaning (now (host .entry))) (u .number))) ⌝ }
 {
     v.number == number && !is_blocked(host, planariser, u, v)
 }
 
 // The bearing of neighbour `w` where the link to it is kept and it lies in a direction.
-fn kept_bearing<R: Reading, P: Planariser>(host: &R, planariser: &P, here: Node, towards: Point, sense: Sense, start: Start, w: Node) -> Option<Bearing>
+fn kept_bearing<R: Reading, P: Planariser>(
+    host: &R,
+    planariser: &P,
+    here: Node,
+    towards: Point,
+    sense: Sense,
+    start: Start,
+    w: Node,
+) -> Option<Bearing>
     ensures { λ r. ⌜ (towards ≢ here .point → w .point ≢ here .point → r ≡ cond (blocked (P·Planariser .blocking (now (planariser .entry))) (here .point) w (neighbours (R·Reading .meaning (now (host .entry))) (here .number))) None (Some (bearing sense start (here .point) towards w))) ⌝ }
 {
     if is_blocked(host, planariser, here, w) {
@@ -60,6 +74,7 @@ fn kept_bearing<R: Reading, P: Planariser>(host: &R, planariser: &P, here: Node,
 }
 
 /// A node of a host as it sees itself: its kept neighbours under a planariser.
+#[derive_where(Clone, Copy)]
 pub struct View<'a, R: Reading, P: Planariser> {
     host: &'a R,
     planariser: &'a P,
@@ -71,7 +86,11 @@ impl<'a, R: Reading, P: Planariser> View<'a, R, P> {
     pub fn new(host: &'a R, planariser: &'a P, number: u8) -> View<'a, R, P>
         ensures { λ r. ⌜ now (r .host) ≡ now (host .entry) ⌝ ∗ ⌜ now (r .planariser) ≡ now (planariser .entry) ⌝ ∗ ⌜ r .number ≡ number ⌝ }
     {
-        View { host, planariser, number }
+        View {
+            host,
+            planariser,
+            number,
+        }
     }
 }
 
@@ -82,14 +101,24 @@ pub impl<R: Reading, P: Planariser> Surroundings for View<'_, R, P> as ViewSurro
 
     fn node(&self) -> Node {
         match self.host.radio(self.number) {
-            Some(radio) => Node { number: self.number, point: radio.point },
-            None => Node { number: self.number, point: Point { x: 0, y: 0 } },
+            Some(radio) => Node {
+                number: self.number,
+                point: radio.point,
+            },
+            None => Node {
+                number: self.number,
+                point: Point { x: 0, y: 0 },
+            },
         }
     }
 
     fn known(&self, number: u8) -> Option<Node> {
         let node = self.host.next_neighbour(self.number, number)?;
-        if is_kept_as(self.host, self.planariser, self.node(), node, number) { Some(node) } else { None }
+        if is_kept_as(self.host, self.planariser, self.node(), node, number) {
+            Some(node)
+        } else {
+            None
+        }
     }
 
     fn first(&self, sense: Sense, start: Start, towards: Point) -> Option<Node> {
@@ -100,7 +129,15 @@ pub impl<R: Reading, P: Planariser> Surroundings for View<'_, R, P> as ViewSurro
         let mut keeper = Keeper::new();
         let mut from = 0;
         while let Some(w) = self.host.next_neighbour(self.number, from) {
-            if let Some(bearing) = kept_bearing(self.host, self.planariser, here, towards, sense, start, w) {
+            if let Some(bearing) = kept_bearing(
+                self.host,
+                self.planariser,
+                here,
+                towards,
+                sense,
+                start,
+                w,
+            ) {
                 let _ = keeper.offer(bearing);
             }
             from = w.number + 1;

@@ -29,7 +29,8 @@ module _ (kept : ℕ → ℕ → Bool) where
   row m zero = []
   row m (suc v) = cond (kept m v) ((m, v) ∷ (v, m) ∷ row m v) (row m v)
 
-  degree : ℕ → ℕ → ℕ
+  -- the links between m and the nodes below v
+  unfoldable pub degree : ℕ → ℕ → ℕ
   degree m zero = 0
   degree m (suc v) = bit (kept m v) + degree m v
 

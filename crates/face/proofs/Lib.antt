@@ -1,0 +1,3 @@
+mod ByComputing
+mod Sides
+mod Hosts

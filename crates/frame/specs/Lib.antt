@@ -1,0 +1,4 @@
+pub mod Faults
+pub mod Digits
+pub mod Frames
+pub mod Lines
