@@ -25,7 +25,7 @@ use Rattle.orbit.proofs.Count.{count, Retraced}
 use Rattle.orbit.proofs.Darts.{Dart}
 use Rattle.delivery.specs.Law.{RightEnd}
 use Rattle.delivery.proofs.Ground.{nd, near, twin, spot, or-source, beyond, Ground}
-use Rattle.delivery.proofs.Past.{later, sends-later}
+use Rattle.orbit.proofs.Past.{later, sends-later}
 use Rattle.delivery.proofs.BestSoFar.{round-course, BestAt, best-of, BestIs, nothing, something, best-none}
 use Rattle.delivery.proofs.Sends.{going, walked-at, closed-at, walks-on, opens-ahead, opens-back, closed-ahead, closed-back}
 use Rattle.delivery.proofs.Entry.{dart-keeps, twin-in, reaches, reaches-on, Beyond, Misses, AtEntry, Foremost, twin-to, twin-from, has-crossing, twin-out, next-entry}

@@ -24,7 +24,7 @@ use Rattle.orbit.specs.Walks.{In}
 use Rattle.orbit.proofs.Orbit.{face, face-round, face-start}
 use Rattle.orbit.proofs.Darts.{Dart}
 use Rattle.delivery.proofs.Ground.{point-or-zero, nd, pt, near, keeps, twin, spot, or-source, Ground}
-use Rattle.delivery.proofs.Past.{opened, sends-opened}
+use Rattle.orbit.proofs.Past.{opened, sends-opened}
 use Rattle.delivery.proofs.BestSoFar.{round-course, best-none}
 use Rattle.delivery.proofs.Sends.{going}
 use Rattle.delivery.proofs.Entry.{dart-in, Beyond}

@@ -11,7 +11,6 @@ pub mod Counting
 pub mod OddAtSource
 pub mod OddAtLink
 pub mod Geometry
-pub mod Past
 pub mod BestSoFar
 pub mod Sends
 pub mod Few

@@ -16,7 +16,7 @@ use Rattle.orbit.proofs.Rounds.{Follows}
 use Rattle.orbit.proofs.Count.{bit, sends, count, count-append, count-map, count-reverse, count-take, count-drop, sent, Retraced}
 use Rattle.orbit.proofs.Darts.{Dart, length-darts}
 use Rattle.delivery.proofs.Ground.{keeps, size-of, twin, faces, Ground}
-use Rattle.delivery.proofs.Past.{Past, opened, later, laps, sent-opened, sent-later, entry-in, start-in, to-entry, from-entry, in-round, in-walk, link-bound}
+use Rattle.orbit.proofs.Past.{Past, opened, later, laps, sent-opened, sent-later, entry-in, start-in, to-entry, from-entry, in-round, in-walk, link-bound}
 use Rattle.delivery.proofs.Entry.{Beyond}
 
 -- one step more of a walk, at its end

@@ -125,7 +125,3 @@ module _ {A : Type 0} where
   retraced-light twin p h r (k, l, inl (e, m)) = omega (arith, ap (count p) e, count-take p k (r .darts))
   retraced-light twin p h r (k, l, inr (e, m)) =
       omega (arith, ap (count p) e, count-map p twin h (reverse (drop (suc k) (r .darts))), count-reverse p (drop (suc k) (r .darts)), count-drop p (suc k) (r .darts))
-
--- one of the two ways is short enough
-pub shorter-way : (k n : ℕ) → k < n → (2 * k < n) ⊎ (2 * (n - suc k) < n)
-shorter-way k n l = elim (decLe (suc (2 * k)) n) [ yes h ↦ inl h | no h ↦ inr (omega arith) ]

@@ -26,14 +26,6 @@ module _ {A : Type 0} (p : Turning A) where
       ap (parity h) (face-is p (next d) ∙ ap (λ (n : ℕ). walk next n (next d)) (face-size p d (next d) i (face-next p d d i (face-start p d i))))
       ∙ parity-walk-next h (size p d) d ∙ sym (parity-shift next h (size p d) d (face-closed p d i)) ∙ ap (parity h) (sym (face-is p d))
 
-  -- a sum over a face is the same from any of its darts
-  pub face-parity : (h : A → Bool) (d x : A) → In d all → In x (face p d) → parity h (face p x) ≡ parity h (face p d)
-  face-parity h d x i j = let (k, l, e) = face-at p d x j in subst (λ (z : A). parity h (face p z) ≡ parity h (face p d)) e (go k d i)
-    where
-      go : (k : ℕ) (c : A) → In c all → parity h (face p (steps next k c)) ≡ parity h (face p c)
-      go zero c i = refl
-      go (suc k) c i = go k (next c) (closed c i) ∙ parity-next h c i
-
   -- the two laws at a face, from identities of all darts
   module _ {N : Type 0} (tail head : A → N) (joint : (x : A) → In x all → tail (next x) ≡ head x) where
     pub face-law : (isA isB inside sideA sideB : N → Bool) (hitA hitB turned : A → Bool)

@@ -5,9 +5,7 @@ pub mod Orbit
 pub mod ParityLaw
 pub mod FaceParity
 pub mod Progress
-pub mod Best
-pub mod Onward
 pub mod Count
 pub mod Rounds
-pub mod Run
 pub mod Darts
+pub mod Past

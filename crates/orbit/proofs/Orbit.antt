@@ -191,12 +191,3 @@ module _ {A : Type 0} (p : Turning A) where
       over = apart-fits (face d) (face x) (face-apart d i) (λ y. face-same d x i j y .0)
       under : length (face x) ≤ length (face d)
       under = apart-fits (face x) (face d) (face-apart x k) (λ y. face-same d x i j y .1)
-
-  -- who finds a first return has found the size
-  pub size-is : (d : A) (k : ℕ) → In d all → Round next d k → size d ≡ k
-  size-is d k i r = go (decLe (suc k) (size d)) (decLe (suc (size d)) k)
-    where
-      go : Dec (k < size d) → Dec (size d < k) → size d ≡ k
-      go (yes l) m = absurd (face-round d i .first k (r .some) l (r .back))
-      go (no l) (yes m) = absurd (r .first (size d) (face-round d i .some) m (face-closed d i))
-      go (no l) (no m) = omega arith

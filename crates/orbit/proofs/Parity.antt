@@ -11,13 +11,6 @@ pub ⊕-self : (a : Bool) → a ⊕ a ≡ false
 ⊕-self true = refl
 ⊕-self false = refl
 
-pub ⊕-false : (a : Bool) → a ⊕ false ≡ a
-⊕-false true = refl
-⊕-false false = refl
-
-pub ⊕-comm : (a b : Bool) → a ⊕ b ≡ b ⊕ a
-⊕-comm a b = grind arith
-
 pub ⊕-assoc : (a b c : Bool) → a ⊕ b ⊕ c ≡ a ⊕ (b ⊕ c)
 ⊕-assoc a b c = grind arith
 
@@ -36,10 +29,6 @@ module _ {A : Type 0} where
   pub parity-add : (f g : A → Bool) (xs : List A) → parity (λ x. f x ⊕ g x) xs ≡ parity f xs ⊕ parity g xs
   parity-add f g [] = refl
   parity-add f g (x ∷ xs) = ap (_⊕_ (f x ⊕ g x)) (parity-add f g xs) ∙ ⊕-swap (f x) (g x) (parity f xs) (parity g xs)
-
-  pub parity-append : (f : A → Bool) (xs ys : List A) → parity f (xs ++ ys) ≡ parity f xs ⊕ parity f ys
-  parity-append f [] ys = refl
-  parity-append f (x ∷ xs) ys = ap (_⊕_ (f x)) (parity-append f xs ys) ∙ sym (⊕-assoc (f x) (parity f xs) (parity f ys))
 
   pub parity-none : (f : A → Bool) (xs : List A) → ((x : A) → In x xs → f x ≡ false) → parity f xs ≡ false
   parity-none f [] h = refl

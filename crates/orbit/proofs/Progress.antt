@@ -38,11 +38,3 @@ module _ {A : Type 0} {N : Type 0} (tail head : A → N) (xs : List A) (turned :
       where
         solve : (e t a c : Bool) → e ≡ a ⊕ c → a ≡ t → e ⊕ t ≡ c
         solve e t a c h k = grind arith
-
--- what the parity of one dart says in a list without repetition
-module _ {A : Type 0} (test : A → Bool) (e : A) (xs : List A) (apart : Apart xs) (holds : test e ≡ true) (only : (x : A) → In x xs → test x ≡ true → x ≡ e) where
-  pub even-leaves : parity test xs ≡ false → ¬ In e xs
-  even-leaves p i = true≢false (sym (parity-one test e xs holds only apart i) ∙ p)
-
-  pub odd-there : parity test xs ≡ true → In e xs
-  odd-there p = let (x, i, t) = odd-has test xs p in subst (λ (z : A). In z xs) (only x i t) i

@@ -55,16 +55,3 @@ module _ {A : Type 0} (p : Turning A) (Beyond : A → A → Type 0) (trans : (x 
   pub rounds-within : (d : A) (ds : List A) → Starts p Beyond d ds → Within (faces p (d ∷ ds)) all
   rounds-within d [] i = (face-inside p d i, tt)
   rounds-within d (c ∷ cs) (f, s) = (face-inside p d (f .there), rounds-within c cs s)
-
-  -- while the round from d is under way: its first k darts, and the faces before
-  away-part : (r s : List A) (rs : List (List A)) → Inside r s → Away s rs → Away r rs
-  away-part r s [] h w = tt
-  away-part r s (t ∷ rs) h (d, w) = (λ x i j. d x (h x i) j, away-part r s rs h w)
-
-  pub front-scattered : (d : A) (ds : List A) (k : ℕ) → k ≤ size p d → Starts p Beyond d ds → Scattered (walk next k d ∷ faces p ds)
-  front-scattered d ds k l s =
-      let (a, w, rest) = rounds-scattered d ds s in
-      (front-apart p d k (latest-in d ds s) l, away-part (walk next k d) (face p d) (faces p ds) (front-inside p d k l) w, rest)
-
-  pub front-within : (d : A) (ds : List A) (k : ℕ) → k ≤ size p d → Starts p Beyond d ds → Within (walk next k d ∷ faces p ds) all
-  front-within d ds k l s = let (h, w) = rounds-within d ds s in (λ x i. h x (front-inside p d k l x i), w)

@@ -94,24 +94,6 @@ module _ (v p x q : Site) (px : Off v p x) (xq : Off v x q) (pq : Off v p q) whe
       go false false true = refl
       go false false false = refl
 
--- the same as it is usually said: R m n where n is clockwise of m
-abbrev pub Rt : Site → Site → Site → Bool
-Rt v m n = L v n m
-
-pub by-cases : (v p x q : Site) → Off v p x → Off v x q → Off v p q
-    → inside v p x q ≡ cond (Rt v p q) (and (Rt v p x) (Rt v x q)) (not (and (Rt v q x) (Rt v x p)))
-by-cases v p x q px xq pq = rw (prq v p x (left-sign v p x px), prq v x q (left-sign v x q xq), prq v p q (left-sign v p q pq)) (go (L v p x) (L v x q) (L v p q))
-  where
-    go : (a b c : Bool) → most (not a) (not b) (not (not c)) ≡ cond (not c) (and (not a) (not b)) (not (and b a))
-    go true true true = refl
-    go true true false = refl
-    go true false true = refl
-    go true false false = refl
-    go false true true = refl
-    go false true false = refl
-    go false false true = refl
-    go false false false = refl
-
 -- ---- four directions: checks of six signs ux uy uz xy xz yz
 abbrev Six : Type 0
 Six = Bool → Bool → Bool → Bool → Bool → Bool → Bool

@@ -113,13 +113,3 @@ module _ (d s t : Vector) (u w : Vector) (lo : St false (det (node s) (far d) (n
       go : (b : Bool) → most b true (not b) ≡ true
       go true = refl
       go false = refl
-
-  pub opening-first : inside (node s) (node t) (far d) (node w) ≡ false
-  opening-first = rw (pqr (node s) (far d) (node t) lo, prq (node s) (far d) (node w) (hw .by-s), prq (node s) (node t) (node w) (left-sign (node s) (node t) (node w) (hw .off))) (go (L (node s) (node t) (node w)))
-    where
-      go : (b : Bool) → and (not b) (not (not b)) ≡ false
-      go true = refl
-      go false = refl
-
-  pub opening-alone : inside (node s) (node t) (far d) (node t) ≡ true
-  opening-alone = rw (pqr (node s) (far d) (node t) lo, prq (node s) (far d) (node t) lo, qpp (node t) (node s)) refl

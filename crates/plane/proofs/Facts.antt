@@ -9,20 +9,6 @@ use Rattle.plane.proofs.Ring.{E, var, add, mul, neg, sub, lit, ring}
 use Rattle.plane.proofs.Identities.{crossᵉ, turnᵉ, innerᵉ, diffᵉ, A, B, C, D, env}
 use Rattle.plane.proofs.Positive.{add-pos, mul-pos, div-pos, neg-pos, pos-not-zero, sign-of, on-equal}
 
--- x, y, z strictly left of w, y left of x and z left of y: z left of x
-pub left-trans : (w x y z : Vector) → pos 0 <ℤ cross w x → pos 0 <ℤ cross w y → pos 0 <ℤ cross w z → pos 0 <ℤ cross x y → pos 0 <ℤ cross y z → pos 0 <ℤ cross x z
-left-trans w x y z wx wy wz xy yz = div-pos
-    (ring (env x y z w) (mul (crossᵉ A C) (crossᵉ D B)) (add (mul (crossᵉ A B) (crossᵉ D C)) (mul (crossᵉ B C) (crossᵉ D A))) tt)
-    wy (add-pos (mul-pos xy wz) (mul-pos yz wx))
-
--- the same of points around p: Knuth's transitivity
-pub turn-trans : (p w x y z : Vector) → pos 0 <ℤ turn p w x → pos 0 <ℤ turn p w y → pos 0 <ℤ turn p w z → pos 0 <ℤ turn p x y → pos 0 <ℤ turn p y z → pos 0 <ℤ turn p x z
-turn-trans p w x y z wx wy wz xy yz = left-trans (diff w p) (diff x p) (diff y p) (diff z p) wx wy wz xy yz
-
--- Knuth's interiority
-pub inside : (p q r t : Vector) → pos 0 <ℤ turn t q r → pos 0 <ℤ turn p t r → pos 0 <ℤ turn p q t → pos 0 <ℤ turn p q r
-inside p q r t h k l = on-equal (ring (env p q r t) (turnᵉ A B C) (add (add (turnᵉ D B C) (turnᵉ A D C)) (turnᵉ A B D)) tt) (add-pos (add-pos h k) l)
-
 -- cyclic symmetry, antisymmetry
 pub turn-cycle : (a b c : Vector) → turn a b c ≡ turn b c a
 turn-cycle a b c = ring (env a b c c) (turnᵉ A B C) (turnᵉ B C A) tt

@@ -37,22 +37,12 @@ D = record { x = var 6; y = var 7 }
 abbrev pub env : Vector → Vector → Vector → Vector → List ℤ
 env a b c d = a .x ∷ a .y ∷ b .x ∷ b .y ∷ c .x ∷ c .y ∷ d .x ∷ d .y ∷ []
 
-
--- I1
+-- three products of cross products
 pub plücker : (x y z w : Vector) → cross x y *ℤ cross z w +ℤ cross y z *ℤ cross x w +ℤ cross z x *ℤ cross y w ≡ pos 0
 plücker x y z w = ring (env x y z w)
     (add (add (mul (crossᵉ A B) (crossᵉ C D)) (mul (crossᵉ B C) (crossᵉ A D))) (mul (crossᵉ C A) (crossᵉ B D))) (lit (pos 0)) tt
 
--- I2
+-- turns and inner products of four points
 pub quad : (a b c d : Vector) → turn a b d *ℤ inner a b c -ℤ turn a b c *ℤ inner a b d -ℤ turn c d b *ℤ inner c d a +ℤ turn c d a *ℤ inner c d b ≡ pos 0
 quad a b c d = ring (env a b c d)
     (add (sub (sub (mul (turnᵉ A B D) (innerᵉ A B C)) (mul (turnᵉ A B C) (innerᵉ A B D))) (mul (turnᵉ C D B) (innerᵉ C D A))) (mul (turnᵉ C D A) (innerᵉ C D B))) (lit (pos 0)) tt
-
--- I3
-pub meet-x : (a b s t : Vector) → turn s t b *ℤ a .x -ℤ turn s t a *ℤ b .x ≡ negℤ (turn a b t *ℤ s .x -ℤ turn a b s *ℤ t .x)
-meet-x a b s t = ring (env a b s t)
-    (sub (mul (turnᵉ C D B) (A .x)) (mul (turnᵉ C D A) (B .x))) (neg (sub (mul (turnᵉ A B D) (C .x)) (mul (turnᵉ A B C) (D .x)))) tt
-
-pub meet-y : (a b s t : Vector) → turn s t b *ℤ a .y -ℤ turn s t a *ℤ b .y ≡ negℤ (turn a b t *ℤ s .y -ℤ turn a b s *ℤ t .y)
-meet-y a b s t = ring (env a b s t)
-    (sub (mul (turnᵉ C D B) (A .y)) (mul (turnᵉ C D A) (B .y))) (neg (sub (mul (turnᵉ A B D) (C .y)) (mul (turnᵉ A B C) (D .y)))) tt

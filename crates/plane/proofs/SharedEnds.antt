@@ -131,11 +131,3 @@ module _ (a b w o : Site) (g : General₄ a b w o) (above : up o a b ≡ true) w
   pub corner-b-first : xor (Sb o a b a) (Sb o a b w) ≡ inside b a o w
   corner-b-first = rw (qpp a b, prq a b o abo!, qrp b w o bwo!, qpr a b w abw!, qrp a b o abo!, qrp a b w abw!)
       (by-check (λ abw abo awo bwo. xor (and (not abo) false) (and bwo (not abw))) (λ abw abo awo bwo. most abo bwo (not abw)) refl)
-
-  -- a lone neighbour w of a has the link's other end inside: not the case that is met
-  pub lone-other : inside a w b w ≡ true
-  lone-other = rw (qpp w a, prq a b w abw!) (go (L a b w))
-    where
-      go : (t : Bool) → most t (not t) true ≡ true
-      go true = refl
-      go false = refl
