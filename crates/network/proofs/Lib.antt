@@ -1,0 +1,10 @@
+pub mod Options
+pub mod Marks
+pub mod Calls
+pub mod Trails
+pub mod Local
+pub mod Alive
+pub mod Holders
+pub mod Pasts
+pub mod Carrying
+pub mod CarryCall
