@@ -3,7 +3,7 @@ ghost use mathlib.Core.Path.{_≡_};
 ghost use mathlib.Core.Bool.{true};
 ghost use mathlib.Core.Logic.{_≢_};
 ghost use Rattle.face.specs.Packet.{send};
-ghost use Rattle.face.specs.Hand.{in-hand, carried-by, opened-from, open-answer, open-told, may-go, forward-answer, hop-answer, told, SendsAreLocal};
+ghost use Rattle.face.specs.Hand.{in-hand, carried-by, opened-from, open-answer, open-told, may-go, forward-answer, hop-answer, told, SendsAreLocal, denial};
 use crate::record::Course;
 use crate::record::End;
 use crate::record::Link;
@@ -51,6 +51,19 @@ pub enum Refusal {
     OutOfService,
     /// The link in hand is no kept link of the holder, or no further send can be counted.
     NoWay,
+}
+
+impl Refusal {
+    /// The number of the refusal.
+    pub fn number(self) -> u8
+        ensures { λ r. ⌜ r ≡ denial self ⌝ }
+    {
+        match self {
+            Refusal::NoNode => 43,
+            Refusal::OutOfService => 44,
+            Refusal::NoWay => 61,
+        }
+    }
 }
 
 /// A packet that was not forwarded, still held.

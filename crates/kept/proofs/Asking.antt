@@ -30,7 +30,7 @@ heard-ascends reach i p k (q ∷ qs) =
     go (differ i k && hear reach p q) (subst (λ (n : ℕ). Ascends (suc k) n (heard reach i p (suc k) qs)) (omega arith) (heard-ascends reach i p (suc k) qs))
   where
     go : (t : Bool) → Ascends (suc k) (k + suc (length qs)) (heard reach i p (suc k) qs)
-      → Ascends k (k + suc (length qs)) (cond t (record { number = k; point = q .point } ∷ heard reach i p (suc k) qs) (heard reach i p (suc k) qs))
+        → Ascends k (k + suc (length qs)) (cond t (record { number = k; point = q .point } ∷ heard reach i p (suc k) qs) (heard reach i p (suc k) qs))
     go true rest = (omega arith, omega arith, rest)
     go false rest = lower (suc k) k (k + suc (length qs)) (heard reach i p (suc k) qs) (omega arith) rest
 
@@ -68,7 +68,7 @@ left-none j [] e = refl
 left-none j (x ∷ xs) e = go (leb j (x .number)) e (left-none j xs)
   where
     go : (t : Bool) → cond t (Some x) (find (λ (n : Node). leb j (n .number)) xs) ≡ None → (find (λ (n : Node). leb j (n .number)) xs ≡ None → left-from j xs ≡ [])
-      → cond t (x ∷ left-from j xs) (left-from j xs) ≡ []
+        → cond t (x ∷ left-from j xs) (left-from j xs) ≡ []
     go true h rest = none-some x (sym h)
     go false h rest = rest h
 
@@ -78,7 +78,7 @@ found-after j k n [] w c e = none-some w e
 found-after j k n (y ∷ ys) w (p, o, c) e = pick (leb j (y .number)) e (found-after j (suc (y .number)) n ys w c)
   where
     pick : (t : Bool) → cond t (Some y) (find (λ (n : Node). leb j (n .number)) ys) ≡ Some w
-      → (find (λ (n : Node). leb j (n .number)) ys ≡ Some w → suc (y .number) ≤ w .number) → k ≤ w .number
+        → (find (λ (n : Node). leb j (n .number)) ys ≡ Some w → suc (y .number) ≤ w .number) → k ≤ w .number
     pick true q rest = let e : y ≡ w = cc in subst (λ (z : Node). k ≤ z .number) e p
     pick false q rest = let m : suc (y .number) ≤ w .number = rest q in omega arith
 
@@ -97,19 +97,19 @@ left-some j k n [] w a e = none-some w e
 left-some j k n (x ∷ xs) w (h, l, a) e = go (leb j (x .number)) refl e (left-some j (suc (x .number)) n xs w a)
   where
     go : (t : Bool) → leb j (x .number) ≡ t → cond t (Some x) (find (λ (n : Node). leb j (n .number)) xs) ≡ Some w
-      → (find (λ (n : Node). leb j (n .number)) xs ≡ Some w → (left-from j xs ≡ w ∷ left-from (suc (w .number)) xs) × (j ≤ w .number) × (w .number < n))
-      → (cond t (x ∷ left-from j xs) (left-from j xs) ≡ w ∷ left-from (suc (w .number)) (x ∷ xs)) × (j ≤ w .number) × (w .number < n)
+        → (find (λ (n : Node). leb j (n .number)) xs ≡ Some w → (left-from j xs ≡ w ∷ left-from (suc (w .number)) xs) × (j ≤ w .number) × (w .number < n))
+        → (cond t (x ∷ left-from j xs) (left-from j xs) ≡ w ∷ left-from (suc (w .number)) (x ∷ xs)) × (j ≤ w .number) × (w .number < n)
     go true q r later =
-      let same : x ≡ w = cc in
-      let at : j ≤ x .number = grind (arith, tells) in
-      let all : left-from j xs ≡ xs = all-left j n xs (lower (suc (x .number)) j n xs (omega arith) a) in
-      let rest : left-from (suc (x .number)) (x ∷ xs) ≡ xs = passed x (suc (x .number)) xs (omega arith) ∙ all-left (suc (x .number)) n xs a in
-      subst (λ (y : Node). (x ∷ left-from j xs ≡ y ∷ left-from (suc (y .number)) (x ∷ xs)) × (j ≤ y .number) × (y .number < n)) same
+        let same : x ≡ w = cc in
+        let at : j ≤ x .number = grind (arith, tells) in
+        let all : left-from j xs ≡ xs = all-left j n xs (lower (suc (x .number)) j n xs (omega arith) a) in
+        let rest : left-from (suc (x .number)) (x ∷ xs) ≡ xs = passed x (suc (x .number)) xs (omega arith) ∙ all-left (suc (x .number)) n xs a in
+        subst (λ (y : Node). (x ∷ left-from j xs ≡ y ∷ left-from (suc (y .number)) (x ∷ xs)) × (j ≤ y .number) × (y .number < n)) same
         (ap (_∷_ x) (all ∙ sym rest), at, l)
     go false q r later =
-      let (f, g, b) = later r in
-      let far : suc (x .number) ≤ w .number = found-after j (suc (x .number)) n xs w a r in
-      (f ∙ ap (_∷_ w) (sym (passed x (suc (w .number)) xs (omega arith))), g, b)
+        let (f, g, b) = later r in
+        let far : suc (x .number) ≤ w .number = found-after j (suc (x .number)) n xs w a r in
+        (f ∙ ap (_∷_ w) (sym (passed x (suc (w .number)) xs (omega arith))), g, b)
 
 -- ---- of a host's neighbours
 

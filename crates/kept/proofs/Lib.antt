@@ -8,3 +8,4 @@ pub mod SameLink
 pub mod Asking
 pub mod Blocking
 pub mod Rounding
+pub mod Counting

@@ -62,8 +62,8 @@ module _ (q : Node → Bool) (j n : ℕ) where
   named-is k (x ∷ xs) (l, b, a) = go (q x) refl (leb j (x .number)) refl (eqb (x .number) j) refl (named-is (suc (x .number)) xs a) (λ h. none-beyond (suc (x .number)) xs h a)
     where
       go : (t : Bool) → q x ≡ t → (u : Bool) → leb j (x .number) ≡ u → (e : Bool) → eqb (x .number) j ≡ e
-        → named xs ≡ if-that q j (find (λ (y : Node). leb j (y .number)) xs) → (j < suc (x .number) → named xs ≡ None)
-        → find (λ (y : Node). eqb (y .number) j) (cond t (x ∷ those q xs) (those q xs)) ≡ if-that q j (cond u (Some x) (find (λ (y : Node). leb j (y .number)) xs))
+          → named xs ≡ if-that q j (find (λ (y : Node). leb j (y .number)) xs) → (j < suc (x .number) → named xs ≡ None)
+          → find (λ (y : Node). eqb (y .number) j) (cond t (x ∷ those q xs) (those q xs)) ≡ if-that q j (cond u (Some x) (find (λ (y : Node). leb j (y .number)) xs))
       go true qt true ut true et r f = ap (λ (s : Bool). cond s (Some x) (named xs)) et ∙ sym (ap₂ (λ (s z : Bool). cond (s && z) (Some x) None) et qt)
       go true qt true ut false et r f = ap (λ (s : Bool). cond s (Some x) (named xs)) et ∙ f (grind (arith, tells)) ∙ sym (ap (λ (s : Bool). cond (s && q x) (Some x) None) et)
       go true qt false ut true et r f = absurd (grind (arith, tells))
@@ -172,29 +172,35 @@ module _ (b : Blocks) (m : Meaning) (i : ℕ) (sense : Sense) (start : Start) (t
     where
       given : Bearing
       given = bearing sense start p towards w
+
       same : (y : Bearing) → y ≡ bearing sense start p towards (y .node) → earlier (given .direction) (y .direction) ≡ before w (y .node)
       same y e = ap (λ (z : Bearing). earlier (given .direction) (z .direction)) e ∙ points-sooner sense start p towards (w .point) (y .node .point) far
+
       pick : (s : Bool) (y : Bearing) → node-of (Some (cond s given y)) ≡ Some (cond s w (y .node))
       pick true y = refl
       pick false y = refl
+
       moved : (h : Option Bearing) → Made h → (ys : List Node) → onward (node-of h) (w ∷ ys) ≡ onward (node-of (offered sooner-one h given)) ys
       moved None k ys = refl
       moved (Some y) k ys = ap (λ (o : Option Node). onward o ys)
-        (sym (pick (earlier (given .direction) (y .direction)) y ∙ ap (λ (s : Bool). Some (cond s w (y .node))) (same y k)))
+          (sym (pick (earlier (given .direction) (y .direction)) y ∙ ap (λ (s : Bool). Some (cond s w (y .node))) (same y k)))
+
       chosen : (s : Bool) (y : Bearing) → y ≡ bearing sense start p towards (y .node) → Made (Some (cond s given y))
       chosen true y k = refl
       chosen false y k = k
+
       made-by : (h : Option Bearing) → Made h → Made (offered sooner-one h given)
       made-by None k = refl
       made-by (Some y) k = chosen (earlier (given .direction) (y .direction)) y k
+
       go : (s : Bool) → blocked b p w (neighbours m i) ≡ s → Some x ≡ cond s None (Some given) → Foremost-to (w .number + 1) h′
       go true e r = absurd (some-not r)
         where
           some-not : Some x ≡ None → ⊥
           some-not r = let z : _≡_ {A = ℕ} 0 1 = cc in omega arith
       go false e r =
-        let same-x : x ≡ given = cc in
-        subst (Foremost-to (w .number + 1)) (sym (o ∙ ap (offered sooner-one h) same-x))
+          let same-x : x ≡ given = cc in
+          subst (Foremost-to (w .number + 1)) (sym (o ∙ ap (offered sooner-one h) same-x))
           (record { so-far = next-of j h w false f n e ∙ moved h (f .made) (rest-after w); made = made-by h (f .made) })
 
 -- the node itself, as the code has it
@@ -220,8 +226,8 @@ pub known-there : (b : Blocks) (m : Meaning) (i j : ℕ) (w here : Node) (t : Bo
     → cond t (Some w) None ≡ find (λ (n : Node). eqb (n .number) j) (kept b (node-at m i .point) (neighbours m i))
 known-there b m i j w here t e k n =
     let there : t ≡ (eqb (w .number) j && not (blocked b (node-at m i .point) w (neighbours m i))) =
-      subst (λ (x : ℕ). t ≡ (eqb (w .number) j && not (blocked b (node-at m i .point) w (neighbours m x)))) (number-at m i)
-        (subst (λ (h : Node). t ≡ (eqb (w .number) j && not (blocked b (h .point) w (neighbours m (h .number))))) e k) in
+    subst (λ (x : ℕ). t ≡ (eqb (w .number) j && not (blocked b (node-at m i .point) w (neighbours m x)))) (number-at m i)
+    (subst (λ (h : Node). t ≡ (eqb (w .number) j && not (blocked b (h .point) w (neighbours m (h .number))))) e k) in
     ap (λ (s : Bool). cond s (Some w) None) there
     ∙ sym (known-is b m i j (node-at m i .point) ∙ ap (if-that (λ (v : Node). not (blocked b (node-at m i .point) v (neighbours m i))) j) (sym n))
 

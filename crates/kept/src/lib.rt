@@ -2,4 +2,5 @@
 pub mod around;
 pub mod bearing;
 pub mod laws;
+pub mod links;
 pub mod view;

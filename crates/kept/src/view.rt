@@ -28,7 +28,12 @@ fn other_blocks<P: Planariser>(planariser: &P, u: Point, v: Node, w: Node) -> bo
 }
 
 // Whether a neighbour of `u` other than `v` blocks the link between them.
-fn is_blocked<R: Reading, P: Planariser>(host: &R, planariser: &P, u: Node, v: Node) -> bool
+pub(crate) fn is_blocked<R: Reading, P: Planariser>(
+    host: &R,
+    planariser: &P,
+    u: Node,
+    v: Node,
+) -> bool
     ensures { λ r. ⌜ r ≡ blocked (P·Planariser .blocking (now (planariser .entry))) (u .point) v (neighbours (R·Reading .meaning (now (host .entry))) (u .number)) ⌝ }
 {
     let mut from = 0;
@@ -42,7 +47,7 @@ fn is_blocked<R: Reading, P: Planariser>(host: &R, planariser: &P, u: Node, v: N
 }
 
 // Whether neighbour `v` has that number and the link to it is kept.
-fn is_kept_as<R: Reading, P: Planariser>(
+pub(crate) fn is_kept_as<R: Reading, P: Planariser>(
     host: &R,
     planariser: &P,
     u: Node,

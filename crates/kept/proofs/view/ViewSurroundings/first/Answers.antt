@@ -41,17 +41,18 @@ loop-w-again g c =
     let far : c .args .towards ≢ node-at m i .point = away (c .node-here .result) (c .args .towards) (c .is .result) (c .if-is .left) (c .is .ensures .apart) (node-at m i) here in
     let near : w .point ≢ node-at m i .point = asked-apart m (g .R·Reading·met .mapped (c .args .self .now .host .now)) i (c .loop-w .from) w (c .in-Some .ensures tt) in
     let offer : c .kept-bearing .result ≡ offer-of b m i (c .args .sense) (c .args .start) (c .args .towards) w =
-      offered-there b m i (c .args .sense) (c .args .start) (c .args .towards) w (c .kept-bearing .result) (c .node-here .result) here (c .kept-bearing .ensures) far near in
-    ( here
-    , elim (c .match-kept-bearing .came) [
+    offered-there b m i (c .args .sense) (c .args .start) (c .args .towards) w (c .kept-bearing .result) (c .node-here .result) here (c .kept-bearing .ensures) far near in (
+      here,
+      elim (c .match-kept-bearing .came) [
         | in-Some-kept-bearing v ↦
-          foremost-offered b m i (c .args .sense) (c .args .start) (c .args .towards) far (c .loop-w .from) (c .loop-w .keeper .held) w (v .in-Some-kept-bearing .bearing) (c .match-kept-bearing .keeper .held)
-          (c .loop-w .inv .1) (c .in-Some .ensures tt) (sym (v .in-Some-kept-bearing .is) ∙ offer)
-          (ap (λ (k : Keeper Bearing). k .held) (v .keeper-is) ∙ v .offer .ensures .after)
+            foremost-offered b m i (c .args .sense) (c .args .start) (c .args .towards) far (c .loop-w .from) (c .loop-w .keeper .held) w (v .in-Some-kept-bearing .bearing) (c .match-kept-bearing .keeper .held)
+            (c .loop-w .inv .1) (c .in-Some .ensures tt) (sym (v .in-Some-kept-bearing .is) ∙ offer)
+            (ap (λ (k : Keeper Bearing). k .held) (v .keeper-is) ∙ v .offer .ensures .after)
         | in-rest-kept-bearing v ↦
-          foremost-past b m i (c .args .sense) (c .args .start) (c .args .towards) (c .loop-w .from) (c .loop-w .keeper .held) w (c .match-kept-bearing .keeper .held)
-          (c .loop-w .inv .1) (c .in-Some .ensures tt) (sym (v .in-rest-kept-bearing .is) ∙ offer) (ap (λ (k : Keeper Bearing). k .held) (v .keeper-is))
-      ] )
+            foremost-past b m i (c .args .sense) (c .args .start) (c .args .towards) (c .loop-w .from) (c .loop-w .keeper .held) w (c .match-kept-bearing .keeper .held)
+            (c .loop-w .inv .1) (c .in-Some .ensures tt) (sym (v .in-rest-kept-bearing .is) ∙ offer) (ap (λ (k : Keeper Bearing). k .held) (v .keeper-is))
+      ],
+    )
 
 pub returns-in-Some-into-held : need.returns-in-Some-into-held
 returns-in-Some-into-held g c =
@@ -62,7 +63,7 @@ returns-in-Some-into-held g c =
     record {
       nowhere = λ e. absurd (far e);
       found = λ _. ap (node-of b m i (c .args .sense) (c .args .start) (c .args .towards)) (c .in-Some-into-held .ensures tt)
-        ∙ foremost-at-last b m i (c .args .sense) (c .args .start) (c .args .towards) (c .loop-w .from) (c .loop-w .keeper .held) (c .loop-w .inv .1) (c .in-rest .ensures tt);
+          ∙ foremost-at-last b m i (c .args .sense) (c .args .start) (c .args .towards) (c .loop-w .from) (c .loop-w .keeper .held) (c .loop-w .inv .1) (c .in-rest .ensures tt);
     }
 
 pub returns-in-None : need.returns-in-None
@@ -73,5 +74,5 @@ returns-in-None g c =
     record {
       nowhere = λ _. refl;
       found = λ _. ap (node-of b m i (c .args .sense) (c .args .start) (c .args .towards)) (c .in-None .ensures tt)
-        ∙ foremost-at-last b m i (c .args .sense) (c .args .start) (c .args .towards) (c .loop-w .from) (c .loop-w .keeper .held) (c .loop-w .inv .1) (c .in-rest .ensures tt);
+          ∙ foremost-at-last b m i (c .args .sense) (c .args .start) (c .args .towards) (c .loop-w .from) (c .loop-w .keeper .held) (c .loop-w .inv .1) (c .in-rest .ensures tt);
     }

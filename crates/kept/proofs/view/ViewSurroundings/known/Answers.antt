@@ -9,8 +9,8 @@ pub returns-in-Break-node : need.returns-in-Break-node
 returns-in-Break-node g c =
     record {
       found = c .from-residual .ensures
-        ∙ unknown-there (g .P·Planariser .blocking (c .args .self .now .planariser .now)) (g .R·Reading .meaning (c .args .self .now .host .now)) (c .args .self .now .number) (c .args .number)
-            (c .in-Break-node .ensures tt);
+          ∙ unknown-there (g .P·Planariser .blocking (c .args .self .now .planariser .now)) (g .R·Reading .meaning (c .args .self .now .host .now)) (c .args .self .now .number) (c .args .number)
+          (c .in-Break-node .ensures tt);
       elsewhere = λ n e. let z : _≡_ {A = ℕ} 0 1 = cc (c .from-residual .ensures, e) in absurd (omega arith);
     }
 
@@ -20,7 +20,7 @@ returns-then-is-kept-as g c =
     let i = c .args .self .now .number in
     record {
       found = known-there (g .P·Planariser .blocking (c .args .self .now .planariser .now)) m i (c .args .number)
-        (c .in-Continue-node .node) (c .node .result) true (c .node .ensures) (c .if-is-kept-as .ensures tt) (c .in-Continue-node .ensures tt);
+          (c .in-Continue-node .node) (c .node .result) true (c .node .ensures) (c .if-is-kept-as .ensures tt) (c .in-Continue-node .ensures tt);
       elsewhere = known-elsewhere m (g .R·Reading·met .mapped (c .args .self .now .host .now)) i (c .args .number) (c .in-Continue-node .node) (c .in-Continue-node .ensures tt) true;
     }
 
@@ -30,6 +30,6 @@ returns-else-is-kept-as g c =
     let i = c .args .self .now .number in
     record {
       found = known-there (g .P·Planariser .blocking (c .args .self .now .planariser .now)) m i (c .args .number)
-        (c .in-Continue-node .node) (c .node .result) false (c .node .ensures) (c .if-is-kept-as .ensures tt) (c .in-Continue-node .ensures tt);
+          (c .in-Continue-node .node) (c .node .result) false (c .node .ensures) (c .if-is-kept-as .ensures tt) (c .in-Continue-node .ensures tt);
       elsewhere = known-elsewhere m (g .R·Reading·met .mapped (c .args .self .now .host .now)) i (c .args .number) (c .in-Continue-node .node) (c .in-Continue-node .ensures tt) false;
     }
