@@ -56,7 +56,6 @@ made-more b m r n h e i l = go (decLe (suc i) n)
 
 module _ (every : EveryRun) (b : Blocks) (m : Meaning) (l : Lawful b) (g : Serving m) (s t : ℕ) (hs : serving m s ≡ true) (ht : serving m t ≡ true)
     (r : Record) (o : opening b m s t ≡ Some r) where
-
   -- after n sends, those after the end altering nothing: j of them were made
   pub record After (n : ℕ) : Type 0 where
     pub j : ℕ
@@ -83,8 +82,8 @@ module _ (every : EveryRun) (b : Blocks) (m : Meaning) (l : Lawful b) (g : Servi
               further : HasEnded (after-sends b m (a .j) r) ⊎ ((after-sends b m (a .j) r .end ≡ UnderWay) × UnderWayAlong b m (after-sends b m (a .j) r) × (a .j < 3 * kept-links b m)) → After (suc n)
               further (inl f) = record { j = a .j; few = omega arith; same = ap (send b m) (a .same) ∙ still b m (after-sends b m (a .j) r) (f .0); stands = a .stands; so-far = a .so-far; ended-or-all = inl f }
               further (inr (u, k, q)) =
-                let more : Made b m (suc (a .j)) r = made-more b m r (a .j) (a .so-far) u in
-                record { j = suc (a .j); few = omega arith; same = ap (send b m) (a .same); stands = every b m l g s t hs ht r o (suc (a .j)) more; so-far = more; ended-or-all = inr (ap suc e) }
+                  let more : Made b m (suc (a .j)) r = made-more b m r (a .j) (a .so-far) u in
+                  record { j = suc (a .j); few = omega arith; same = ap (send b m) (a .same); stands = every b m l g s t hs ht r o (suc (a .j)) more; so-far = more; ended-or-all = inr (ap suc e) }
 
   -- the last send was made by a packet under way, so there were at most three for each kept link
   last-was : (j : ℕ) → Made b m j r → j ≤ 3 * kept-links b m
@@ -102,6 +101,7 @@ module _ (every : EveryRun) (b : Blocks) (m : Meaning) (l : Lawful b) (g : Servi
     where
       x : Record
       x = after-sends b m (after n .j) r
+
       go : HasEnded x ⊎ ((x .end ≡ UnderWay) × UnderWayAlong b m x × (after n .j < 3 * kept-links b m)) → (x .hand ≡ None) ⊎ ((x .total < 65535) × UnderWayAlong b m x)
       go (inl e) = inl (e .0)
       go (inr (u, k, q)) = inr (omega (arith, after n .stands .total-is, few-links b m (g .few)), k)
@@ -111,8 +111,8 @@ module _ (every : EveryRun) (b : Blocks) (m : Meaning) (l : Lawful b) (g : Servi
   goes x k e (inl n) = let z : _≡_ {A = ℕ} 0 1 = cc in absurd (omega arith)
   goes x k e (inr (h, w)) = ap (may-go-along (kept-neighbours b m (x .holder)) x) (w .in-hand)
       ∙ all-three (eqb (w .l .from) (x .holder)) (ltb (x .total) 65535) (is-among (kept-neighbours b m (x .holder)) (w .l .to))
-          (let f = w .leaves in grind (arith, tells)) (grind (arith, tells))
-          (subst (λ (i : ℕ). is-among (kept-neighbours b m i) (w .l .to) ≡ true) (w .leaves) (yes-is (is-among (kept-neighbours b m (w .l .from)) (w .l .to)) (w .along)))
+      (let f = w .leaves in grind (arith, tells)) (grind (arith, tells))
+      (subst (λ (i : ℕ). is-among (kept-neighbours b m i) (w .l .to) ≡ true) (w .leaves) (yes-is (is-among (kept-neighbours b m (w .l .from)) (w .l .to)) (w .along)))
     where
       all-three : (p q o : Bool) → p ≡ true → q ≡ true → o ≡ true → (p && q && o) ≡ true
       all-three true true true a c d = refl
@@ -134,14 +134,17 @@ module _ (every : EveryRun) (b : Blocks) (m : Meaning) (l : Lawful b) (g : Servi
     where
       x : Record
       x = after-sends b m (after n .j) r
+
       most : HasEnded x ⊎ ((x .end ≡ UnderWay) × UnderWayAlong b m x × (after n .j < 3 * kept-links b m)) → x .total ≤ 3 * kept-links b m
       most (inl e) = omega (arith, after n .stands .total-is, last-was (after n .j) (after n .so-far))
       most (inr (u, k, q)) = omega (arith, after n .stands .total-is)
+
       right : (e : End) → x .end ≡ e → RightEnd m s t e → HasEnded x → EndsRightly m s t x
       right UnderWay e q (h, inl d) = absurd (not-under (sym e ∙ d))
       right UnderWay e q (h, inr d) = absurd (not-under′ (sym e ∙ d))
       right Delivered e q h = inl (e, q)
       right Unreachable e q h = inr (e, q)
+
       ends : 3 * kept-links b m ≤ n → HasEnded x ⊎ ((x .end ≡ UnderWay) × UnderWayAlong b m x × (after n .j < 3 * kept-links b m)) → HasEnded x ⊎ (after n .j ≡ n) → EndsRightly m s t x
       ends h (inl e) o = right (x .end) refl (after n .stands .right) e
       ends h (inr u) (inl e) = right (x .end) refl (after n .stands .right) e
@@ -226,8 +229,13 @@ module _ (b : Blocks) (m : Meaning) (s t n : ℕ) where
 
   module _ (l : Lawful b) (g : Serving m) where
     pub sent-more : (i : ℕ) (p q : Packet) → Sent i p → q ≡ gone-on b m p → Sent (i + 1) q
-    sent-more i p q w e = record { r = w .r; is = w .is; source-serves = w .source-serves; target-serves = w .target-serves;
-      packet-is = e ∙ ap (gone-on b m) (w .packet-is) ∙ on-as-ruled every b m l g s t (w .source-serves) (w .target-serves) (w .r) (w .is) i }
+    sent-more i p q w e = record {
+      r = w .r;
+      is = w .is;
+      source-serves = w .source-serves;
+      target-serves = w .target-serves;
+      packet-is = e ∙ ap (gone-on b m) (w .packet-is) ∙ on-as-ruled every b m l g s t (w .source-serves) (w .target-serves) (w .r) (w .is) i;
+    }
 
     pub run-done : (p : Packet) (d : Record) → Sent n p → d ≡ carried-by p → run-told (Ok d) ≡ run-answer b m s t n
     run-done p d w e = ap Ok (e ∙ ap carried-by (w .packet-is) ∙ carried-is (after-sends b m n (w .r)))
@@ -237,4 +245,4 @@ module _ (b : Blocks) (m : Meaning) (s t n : ℕ) where
     run-right p d x w e k =
         let same : d ≡ x = cc in
         subst (RunsRightly b m s t n) (sym (sym same ∙ e ∙ ap carried-by (w .packet-is) ∙ carried-is (after-sends b m n (w .r))))
-          (runs-rightly every b m l g s t (w .source-serves) (w .target-serves) (w .r) (w .is) n)
+        (runs-rightly every b m l g s t (w .source-serves) (w .target-serves) (w .r) (w .is) n)

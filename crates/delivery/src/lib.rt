@@ -25,7 +25,13 @@ fn go_on<R: Reading, P: Planariser>(packet: Packet, host: &R, planariser: &P) ->
 }
 
 /// Runs a packet from `source` to `target` to its end, or through `budget` sends; three for each kept link suffice.
-pub fn deliver<R: Reading, P: Planariser>(host: &R, planariser: &P, source: u8, target: u8, budget: u16) -> Result<Record, Refusal>
+pub fn deliver<R: Reading, P: Planariser>(
+    host: &R,
+    planariser: &P,
+    source: u8,
+    target: u8,
+    budget: u16,
+) -> Result<Record, Refusal>
     ensures answer { λ r. ⌜ run-told r ≡ run-answer (P·Planariser .blocking (now (planariser .entry))) (R·Reading .meaning (now (host .entry))) source target budget ⌝ }
     ensures rightly { λ r. ⌜ ((d : Record) → r ≡ Ok d → RunsRightly (P·Planariser .blocking (now (planariser .entry))) (R·Reading .meaning (now (host .entry))) source target budget d) ⌝ }
     ensures always { λ _. ⌜ EveryRun ⌝ }

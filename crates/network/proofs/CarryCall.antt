@@ -59,15 +59,15 @@ module _ (b : Blocks) (n : Net) (l budget : ℕ) (memory : List HopRecord) (len 
       let hops = trail b (n .host) (min budget room) r in
       let is : called b n (On l (Carry budget room)) ≡ carried-on b n l budget (min budget room) r
       = own-call b l (H .low) n r (Carry budget room) (H .held)
-        ∙ ap (λ (x : Bool). cond {A = Net × Answer} x (carried-on b n l budget (min budget room) r) (n, refused PacketEnded)) moves in
+      ∙ ap (λ (x : Bool). cond {A = Net × Answer} x (carried-on b n l budget (min budget room) r) (n, refused PacketEnded)) moves in
       let all : listed (called b n (On l (Carry budget room)) .1) ≡ hops = ap (λ (a : Net × Answer). listed (a .1)) is in
       let many : c .hops ≡ length hops = ap (λ (x : CarryAnswer). x .hops) answered in
       record {
         does = record {
           leaves = ap (λ (x : Record). put n l (Some x)) sent ∙ ap (λ (a : Net × Answer). a .0) (sym is);
           says = ap (λ (x : CarryAnswer). Carried (listed (called b n (On l (Carry budget room)) .1)) (x .stopper)) answered
-            ∙ ap (λ (hs : List HopRecord). Carried hs (stopper (after-sends b (n .host) (min budget room) r) (length hops) budget)) all
-            ∙ ap (λ (a : Net × Answer). a .1) (sym is);
+              ∙ ap (λ (hs : List HopRecord). Carried hs (stopper (after-sends b (n .host) (min budget room) r) (length hops) budget)) all
+              ∙ ap (λ (a : Net × Answer). a .1) (sym is);
         };
         counts = many ∙ ap length (sym all);
         least = λ needed N. many ∙ trail-length b (n .host) (min budget room) needed r (needed-ends b l (H .low) n r (H .held) needed N) ∙ omega arith;

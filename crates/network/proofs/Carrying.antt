@@ -113,8 +113,8 @@ module _ (b : Blocks) (m : Meaning) (r₀ : Record) (budget : ℕ) (memory₀ : 
         let written′ : memory′ ≡ set memory len x = written ∙ cond-true (has-room memory len) _ _ room in
         let trailed : trail b m (hops + 1) r₀ ≡ trail b m hops r₀ ++ x ∷ []
         = ap (λ (i : ℕ). trail b m i r₀) (add-one hops) ∙ trail-more b m hops r₀
-          ∙ ap (λ (q : Record). trail b m hops r₀ ++ hop-along q (q .hand)) (sym (C .sent))
-          ∙ ap (λ (o : Option Link). trail b m hops r₀ ++ hop-along r o) hand in
+        ∙ ap (λ (q : Record). trail b m hops r₀ ++ hop-along q (q .hand)) (sym (C .sent))
+        ∙ ap (λ (o : Option Link). trail b m hops r₀ ++ hop-along r o) hand in
         let count : length (trail b m (hops + 1) r₀) ≡ hops + 1 = ap length trailed ∙ length-push (trail b m hops r₀) x ∙ ap (λ (i : ℕ). i + 1) (C .counted) in
         let rest′ : drop (len + 1) memory ≡ drop (len + 1) memory₀
         = sym (drop-drop 1 len memory) ∙ ap (drop 1) (C .grown .rest) ∙ drop-drop 1 len memory₀ in
@@ -124,7 +124,7 @@ module _ (b : Blocks) (m : Meaning) (r₀ : Record) (budget : ℕ) (memory₀ : 
           grown = record {
             longer = let e = C .grown .longer in let f = C .counted in omega arith;
             holds = holds ∙ cond-true (has-room memory len) _ _ room ∙ ap (λ (xs : List HopRecord). xs ++ x ∷ []) (C .grown .holds)
-              ∙ append-assoc (items memory₀ len₀) (trail b m hops r₀) (x ∷ []) ∙ ap (λ (xs : List HopRecord). items memory₀ len₀ ++ xs) (sym trailed);
+                ∙ append-assoc (items memory₀ len₀) (trail b m hops r₀) (x ∷ []) ∙ ap (λ (xs : List HopRecord). items memory₀ len₀ ++ xs) (sym trailed);
             rest = (λ i. drop (longer′ i) (written′ i)) ∙ drop-set-lt (len + 1) memory len x (omega arith) ∙ rest′ ∙ ap (λ (i : ℕ). drop i memory₀) (sym longer′);
           };
           within = let w = C .within in omega (arith, left);

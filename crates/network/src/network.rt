@@ -68,7 +68,12 @@ impl<H: Switching, P: Planariser> Network<H, P> {
     }
 
     /// Hops the packet on a line on until it ends, the budget is used up or the list is full, and lists its hops.
-    pub fn carry(&mut self, line: u8, budget: u16, list: &mut LentList<'_, HopRecord>) -> Result<Carried, Refusal>
+    pub fn carry(
+        &mut self,
+        line: u8,
+        budget: u16,
+        list: &mut LentList<'_, HopRecord>,
+    ) -> Result<Carried, Refusal>
         ensures call { λ r. ⌜ CarryDoes (P·Planariser .blocking (now (self .entry) .planariser)) (net (H·Reading .meaning (now (self .entry) .host)) (now (self .entry) .lines .records)) line budget (now (now (list .entry) .memory)) (now (list .entry) .len) (net (H·Reading .meaning (now (self .exit) .host)) (now (self .exit) .lines .records)) r (now (now (list .exit) .memory)) (now (list .exit) .len) ⌝ }
         ensures lent { λ _. ⌜ name (now (list .exit) .memory) ≡ name (now (list .entry) .memory) ⌝ }
         ensures host { λ _. ⌜ now (self .exit) .host ≡ now (self .entry) .host ⌝ }

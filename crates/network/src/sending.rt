@@ -18,7 +18,12 @@ use floor::planariser::Planariser;
 use host::sides::Reading;
 
 /// The record of a new packet; refused where source or target is no node or out of service.
-pub fn open_record<R: Reading, P: Planariser>(host: &R, planariser: &P, source: u8, target: u8) -> Result<Record, Refusal>
+pub fn open_record<R: Reading, P: Planariser>(
+    host: &R,
+    planariser: &P,
+    source: u8,
+    target: u8,
+) -> Result<Record, Refusal>
     ensures { λ r. ⌜ r ≡ newly-opened (P·Planariser .blocking (now (planariser .entry))) (R·Reading .meaning (now (host .entry))) source target ⌝ }
 {
     match Packet::open(host, planariser, source, target) {
@@ -29,7 +34,13 @@ pub fn open_record<R: Reading, P: Planariser>(host: &R, planariser: &P, source: 
 }
 
 /// Sends a packet on until it ends, the budget is used up or the list is full, and lists its hops.
-pub fn carry_on<R: Reading, P: Planariser>(packet: &mut Record, budget: u16, list: &mut LentList<'_, HopRecord>, host: &R, planariser: &P) -> Carried
+pub fn carry_on<R: Reading, P: Planariser>(
+    packet: &mut Record,
+    budget: u16,
+    list: &mut LentList<'_, HopRecord>,
+    host: &R,
+    planariser: &P,
+) -> Carried
     ensures packet { λ _. ⌜ now (packet .exit) ≡ after-sends (P·Planariser .blocking (now (planariser .entry))) (R·Reading .meaning (now (host .entry))) (min budget (length (now (now (list .entry) .memory)) - now (list .entry) .len)) (now (packet .entry)) ⌝ }
     ensures answer { λ r. ⌜ r ≡ carry-answer (P·Planariser .blocking (now (planariser .entry))) (R·Reading .meaning (now (host .entry))) budget (length (now (now (list .entry) .memory)) - now (list .entry) .len) (now (packet .entry)) ⌝ }
     ensures list { λ _. ⌜ Extended (now (now (list .entry) .memory)) (now (list .entry) .len) (trail (P·Planariser .blocking (now (planariser .entry))) (R·Reading .meaning (now (host .entry))) (min budget (length (now (now (list .entry) .memory)) - now (list .entry) .len)) (now (packet .entry))) (now (now (list .exit) .memory)) (now (list .exit) .len) ⌝ }

@@ -114,7 +114,7 @@ module _ {A : Type 0} where
   abbrev pub Retraced : (A → A) → Lap A → Type 0
   Retraced twin r = (k : ℕ) × (k < length (r .darts)) ×
       (((r .walked ≡ take k (r .darts)) × (2 * k < length (r .darts)))
-        ⊎ ((r .walked ≡ map twin (reverse (drop (suc k) (r .darts)))) × (2 * (length (r .darts) - suc k) < length (r .darts))))
+      ⊎ ((r .walked ≡ map twin (reverse (drop (suc k) (r .darts)))) × (2 * (length (r .darts) - suc k) < length (r .darts))))
 
   pub retraced-short : (twin : A → A) (r : Lap A) → Retraced twin r → 2 * length (r .walked) < length (r .darts)
   retraced-short twin r (k, l, inl (e, h)) = omega (arith, ap length e, length-take k (r .darts))

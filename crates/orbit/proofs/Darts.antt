@@ -126,9 +126,9 @@ module _ (kept : ℕ → ℕ → Bool) where
           let (c, d, h) = darts-in n (y .0) (y .1) j in
           let f : x .1 ≡ y .1 = ap (λ (z : Dart). z .0) e in
           let g : x .0 ≡ y .0 =
-                sym (undone (x .1) (x .0) a b (symmetric (x .1) (x .0) ∙ k))
-                ∙ ap (λ (z : Dart). before (z .0) (z .1)) e
-                ∙ undone (y .1) (y .0) c d (symmetric (y .1) (y .0) ∙ h) in
+          sym (undone (x .1) (x .0) a b (symmetric (x .1) (x .0) ∙ k))
+          ∙ ap (λ (z : Dart). before (z .0) (z .1)) e
+          ∙ undone (y .1) (y .0) c d (symmetric (y .1) (y .0) ∙ h) in
           (λ t. (g t, f t))
 
       -- THE TURNING of a graph with a rotation; its `next` computes

@@ -35,7 +35,7 @@ module _ {A : Type 0} (p : Turning A) where
         → (d : A) → In d all → winding head turned (face p d) hitA isA ≡ winding head turned (face p d) hitB isB
     face-law isA isB inside sideA sideB hitA hitB turned dart cornerA cornerB d i =
         law next tail head (face p d) (face-turns d i) (λ x j. joint x (face-inside p d i x j)) isA isB inside sideA sideB hitA hitB turned
-          (λ x j. dart x (face-inside p d i x j)) (λ x j. cornerA x (face-inside p d i x j)) (λ x j. cornerB x (face-inside p d i x j))
+        (λ x j. dart x (face-inside p d i x j)) (λ x j. cornerA x (face-inside p d i x j)) (λ x j. cornerB x (face-inside p d i x j))
 
     pub face-law-between : (isA isB inside sideA : N → Bool) (hitA hitX turned : A → Bool)
         → ((x : A) → In x all → (inside (tail x) ⊕ inside (head x)) ⊕ (hitA x ⊕ hitX x) ≡ ends tail head isA sideA x)
@@ -43,4 +43,4 @@ module _ {A : Type 0} (p : Turning A) where
         → (d : A) → In d all → parity hitX (face p d) ≡ winding head turned (face p d) hitA isA ⊕ parity (λ x. isA (head x) && isB (tail x)) (face p d)
     face-law-between isA isB inside sideA hitA hitX turned dart corner d i =
         law-between next tail head (face p d) (face-turns d i) (λ x j. joint x (face-inside p d i x j)) isA isB inside sideA hitA hitX turned
-          (λ x j. dart x (face-inside p d i x j)) (λ x j. corner x (face-inside p d i x j))
+        (λ x j. dart x (face-inside p d i x j)) (λ x j. corner x (face-inside p d i x j))

@@ -24,6 +24,7 @@ least P dec (suc k) = go (least P dec k) (dec (suc k))
   where
     last : (j : ℕ) → ¬ (j ≤ k) → j ≤ suc k → j ≡ suc k
     last j n l = omega arith
+
     go : Found P k → Dec (P (suc k)) → Found P (suc k)
     go (inl (m, l, r)) d = inl (m, omega arith, r)
     go (inr none) (yes p) = inl (suc k, omega arith, (omega arith, p, λ j q l. none j q (omega arith)))
@@ -76,9 +77,10 @@ module _ {A : Type 0} (p : Turning A) where
       go (no new) (inr (k, q, l, e)) = inr (k, q, omega arith, injective (steps next k d) d (steps-inside next all closed k d i) i (sym (steps-next next k d) ∙ e))
 
   returns : (d : A) → In d all → (k : ℕ) × (0 < k) × (k ≤ length all) × (steps next k d ≡ d)
-  returns d i = elim (returns-or-apart (suc (length all)) d i)
-      [ inl a ↦ absurd (too-long (apart-fits (walk next (suc (length all)) d) all a (walk-inside next all closed (suc (length all)) d i)))
-      | inr (k, q, l, e) ↦ (k, q, omega arith, e) ]
+  returns d i = elim (returns-or-apart (suc (length all)) d i) [
+    | inl a ↦ absurd (too-long (apart-fits (walk next (suc (length all)) d) all a (walk-inside next all closed (suc (length all)) d i)))
+    | inr (k, q, l, e) ↦ (k, q, omega arith, e)
+  ]
     where
       too-long : length (walk next (suc (length all)) d) ≤ length all → ⊥
       too-long h = omega (arith, length-walk next (suc (length all)) d)
@@ -89,6 +91,7 @@ module _ {A : Type 0} (p : Turning A) where
     where
       P : ℕ → Type 0
       P k = steps next k d ≡ d
+
       go : (f : Found P (length all)) → Round next d (number P (length all) f) × (number P (length all) f ≤ length all)
       go (inl (m, l, (q, e, r))) = (record { some = q; back = e; first = r }, l)
       go (inr none) = let (k, q, l, e) = returns d i in absurd (none k q l e)
@@ -145,9 +148,10 @@ module _ {A : Type 0} (p : Turning A) where
   face-next d x i j = go (face-at d x j)
     where
       go : ((k : ℕ) × (k < size d) × (steps next k d ≡ x)) → In (next x) (face d)
-      go (k, l, e) = elim (decLe (suc (suc k)) (size d))
-          [ yes m ↦ subst (λ (z : A). In z (face d)) (steps-next next k d ∙ ap next e) (face-has d (suc k) m)
-          | no n ↦ subst (λ (z : A). In z (face d)) (sym (face-closed d i) ∙ ap (λ (m : ℕ). steps next m d) (last l n) ∙ steps-next next k d ∙ ap next e) (face-start d i) ]
+      go (k, l, e) = elim (decLe (suc (suc k)) (size d)) [
+        | yes m ↦ subst (λ (z : A). In z (face d)) (steps-next next k d ∙ ap next e) (face-has d (suc k) m)
+        | no n ↦ subst (λ (z : A). In z (face d)) (sym (face-closed d i) ∙ ap (λ (m : ℕ). steps next m d) (last l n) ∙ steps-next next k d ∙ ap next e) (face-start d i)
+      ]
         where
           last : k < size d → ¬ (suc (suc k) ≤ size d) → size d ≡ suc k
           last l n = omega arith
@@ -165,6 +169,7 @@ module _ {A : Type 0} (p : Turning A) where
         where
           whole : k + (size d - k) ≡ size d
           whole = omega arith
+
           round : steps next (size d - k) x ≡ d
           round = ap (steps next (size d - k)) (sym e) ∙ sym (steps-add next k (size d - k) d) ∙ ap (λ (m : ℕ). steps next m d) whole ∙ face-closed d i
 
@@ -187,7 +192,9 @@ module _ {A : Type 0} (p : Turning A) where
     where
       k : In x all
       k = face-inside d i x j
+
       over : length (face d) ≤ length (face x)
       over = apart-fits (face d) (face x) (face-apart d i) (λ y. face-same d x i j y .0)
+
       under : length (face x) ≤ length (face d)
       under = apart-fits (face x) (face d) (face-apart x k) (λ y. face-same d x i j y .1)

@@ -81,5 +81,6 @@ module _ {A : Type 0} where
       where
         w : List A
         w = walk next n d
+
         equal : (a b : Bool) → a ⊕ b ≡ false → a ≡ b
         equal a b e = grind arith

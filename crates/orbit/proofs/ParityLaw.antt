@@ -35,7 +35,6 @@ winding head turned xs hit is = parity hit xs ⊕ parity (λ x. is (head x) && t
 
 module _ {A : Type 0} {N : Type 0} (next : A → A) (tail head : A → N) (xs : List A)
     (turns : Turns next xs) (joint : (x : A) → In x xs → tail (next x) ≡ head x) where
-
   -- each node is counted at the dart that comes and at the dart that goes
   pub nodes-even : (inside : N → Bool) → parity (λ x. inside (tail x) ⊕ inside (head x)) xs ≡ false
   nodes-even inside =
@@ -53,8 +52,10 @@ module _ {A : Type 0} {N : Type 0} (next : A → A) (tail head : A → N) (xs : 
     where
       comes : A → Bool
       comes x = is (head x) && side (tail x)
+
       goes : A → Bool
       goes x = is (head x) && side (head (next x))
+
       one : (g a b : Bool) → (g && a) ⊕ (g && b) ≡ (g && (b ⊕ a))
       one g a b = grind arith
 
@@ -65,7 +66,7 @@ module _ {A : Type 0} {N : Type 0} (next : A → A) (tail head : A → N) (xs : 
   at-corners is side extra turned corner =
       by-corners is side
       ∙ parity-same (λ x. is (head x) && (side (tail x) ⊕ side (head (next x)))) (λ x. (is (head x) && extra x) ⊕ (is (head x) && turned x)) xs
-          (λ x i. guarded (is (head x)) (side (tail x) ⊕ side (head (next x))) (extra x ⊕ turned x) (corner x i) ∙ &&-⊕ (is (head x)) (extra x) (turned x))
+      (λ x i. guarded (is (head x)) (side (tail x) ⊕ side (head (next x))) (extra x ⊕ turned x) (corner x i) ∙ &&-⊕ (is (head x)) (extra x) (turned x))
       ∙ parity-add (λ x. is (head x) && extra x) (λ x. is (head x) && turned x) xs
 
   -- THE LAW of part 3: the two ends of a link wind alike
@@ -76,10 +77,11 @@ module _ {A : Type 0} {N : Type 0} (next : A → A) (tail head : A → N) (xs : 
       → winding head turned xs hitA isA ≡ winding head turned xs hitB isB
   law isA isB inside sideA sideB hitA hitB turned dart cornerA cornerB =
       cancel-both (parity hitA xs) (parity hitB xs) (parity (λ x. isA (head x) && isB (tail x)) xs) (parity (λ x. isA (head x) && turned x) xs) (parity (λ x. isB (head x) && turned x) xs)
-        (hits ∙ ap₂ _⊕_ (at-corners isA sideA (λ x. isB (tail x)) turned cornerA) (at-corners isB sideB (λ x. isA (head (next x))) turned cornerB ∙ ap (λ (b : Bool). b ⊕ parity (λ x. isB (head x) && turned x) xs) passes))
+      (hits ∙ ap₂ _⊕_ (at-corners isA sideA (λ x. isB (tail x)) turned cornerA) (at-corners isB sideB (λ x. isA (head (next x))) turned cornerB ∙ ap (λ (b : Bool). b ⊕ parity (λ x. isB (head x) && turned x) xs) passes))
     where
       both : A → Bool
       both x = hitA x ⊕ hitB x
+
       hits : parity hitA xs ⊕ parity hitB xs ≡ parity (ends tail head isA sideA) xs ⊕ parity (ends tail head isB sideB) xs
       hits =
           sym (parity-add hitA hitB xs)
@@ -87,10 +89,11 @@ module _ {A : Type 0} {N : Type 0} (next : A → A) (tail head : A → N) (xs : 
           ∙ sym (parity-add (λ x. inside (tail x) ⊕ inside (head x)) both xs)
           ∙ parity-same (λ x. (inside (tail x) ⊕ inside (head x)) ⊕ both x) (λ x. ends tail head isA sideA x ⊕ ends tail head isB sideB x) xs dart
           ∙ parity-add (ends tail head isA sideA) (ends tail head isB sideB) xs
+
       passes : parity (λ x. isB (head x) && isA (head (next x))) xs ≡ parity (λ x. isA (head x) && isB (tail x)) xs
       passes =
           parity-same (λ x. isB (head x) && isA (head (next x))) (λ x. isA (head (next x)) && isB (tail (next x))) xs
-            (λ x i. &&-swap (isB (head x)) (isA (head (next x))) ∙ ap (λ (n : N). isA (head (next x)) && isB n) (sym (joint x i)))
+          (λ x i. &&-swap (isB (head x)) (isA (head (next x))) ∙ ap (λ (n : N). isA (head (next x)) && isB n) (sym (joint x i)))
           ∙ sym (turns (λ x. isA (head x) && isB (tail x)))
 
   -- THE LAW of part 4: a point of the link a b, which is no node, is hit as a winds, but for the passes over b a
@@ -100,10 +103,11 @@ module _ {A : Type 0} {N : Type 0} (next : A → A) (tail head : A → N) (xs : 
       → parity hitX xs ≡ winding head turned xs hitA isA ⊕ parity (λ x. isA (head x) && isB (tail x)) xs
   law-between isA isB inside sideA hitA hitX turned dart corner =
       cancel-one (parity hitA xs) (parity hitX xs) (parity (λ x. isA (head x) && isB (tail x)) xs) (parity (λ x. isA (head x) && turned x) xs)
-        (hits ∙ at-corners isA sideA (λ x. isB (tail x)) turned corner)
+      (hits ∙ at-corners isA sideA (λ x. isB (tail x)) turned corner)
     where
       both : A → Bool
       both x = hitA x ⊕ hitX x
+
       hits : parity hitA xs ⊕ parity hitX xs ≡ parity (ends tail head isA sideA) xs
       hits =
           sym (parity-add hitA hitX xs)

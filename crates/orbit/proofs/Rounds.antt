@@ -38,15 +38,17 @@ module _ {A : Type 0} (p : Turning A) (Beyond : A → A → Type 0) (trans : (x 
   none-earlier : (e d : A) (ds : List A) → In e all → Starts p Beyond d ds → Beyond d e → Away (face p e) (faces p ds)
   none-earlier e d [] i s b = tt
   none-earlier e d (c ∷ cs) i (f, s) b =
-      let far : Beyond c e = trans c d e (f .grows) b in
-      ( λ x j k. faces-disjoint p e c i (latest-in c cs s) (λ m. f .best e m far b) x k j
-      , none-earlier e c cs i s far )
+      let far : Beyond c e = trans c d e (f .grows) b in (
+        λ x j k. faces-disjoint p e c i (latest-in c cs s) (λ m. f .best e m far b) x k j,
+        none-earlier e c cs i s far,
+      )
 
   away : (d : A) (ds : List A) → Starts p Beyond d ds → Away (face p d) (faces p ds)
   away d [] s = tt
-  away d (c ∷ cs) (f, s) =
-      ( λ x j k. faces-disjoint p d c (f .there) (latest-in c cs s) (f .leaves) x k j
-      , none-earlier d c cs (f .there) s (f .grows) )
+  away d (c ∷ cs) (f, s) = (
+    λ x j k. faces-disjoint p d c (f .there) (latest-in c cs s) (f .leaves) x k j,
+    none-earlier d c cs (f .there) s (f .grows),
+  )
 
   pub rounds-scattered : (d : A) (ds : List A) → Starts p Beyond d ds → Scattered (faces p (d ∷ ds))
   rounds-scattered d [] i = (face-apart p d i, tt, tt)

@@ -125,8 +125,8 @@ module _ (v u x y z : Site) (ux : Off v u x) (uy : Off v u y) (uz : Off v u z) (
   outside h k =
       let k′ : most (not (L v u z)) (L v y z) (not (not (L v u y))) ≡ false = sym (rw (prq v u z (left-sign v u z uz), prq v u y (left-sign v u y uy)) refl) ∙ k in
       rw (prq v u x (left-sign v u x ux)) (follows _ _ (no-or _ _
-        (by-round (λ ux uy uz xy xz yz. or (most (not uz) yz (not (not uy))) (or (not (most (not ux) (not xy) (not (not uy)))) (most uz (not ux) (not xz)))) refl)
-        k′) (sym (arc v u x y ux xy uy) ∙ h))
+      (by-round (λ ux uy uz xy xz yz. or (most (not uz) yz (not (not uy))) (or (not (most (not ux) (not xy) (not (not uy)))) (most uz (not ux) (not xz)))) refl)
+      k′) (sym (arc v u x y ux xy uy) ∙ h))
 
 -- ---- next and previous, among the neighbours K of v
 module _ {I : Type 0} (same? : Discrete I) (at′ : I → Site) (v : Site) (K : I → Type 0) (apart : (i j : I) → K i → K j → ¬ (i ≡ j) → Off v (at′ i) (at′ j)) where
@@ -173,12 +173,12 @@ module _ {I : Type 0} (same? : Discrete I) (at′ : I → Site) (v : Site) (K : 
       go (no d) (yes p) q = sym (alone u u′ ku ku′ (subst (λ i. Next u i) (sym p) n))
       go (no d) (no p) (yes q) = alone u′ u ku′ ku (subst (λ i. Next u′ i) (sym q) n′)
       go (no d) (no p) (no q) =
-        let wu = apart w u kw ku (λ e. p (sym e)) in
-        let wu′ = apart w u′ kw ku′ (λ e. q (sym e)) in
-        clash (sym
+          let wu = apart w u kw ku (λ e. p (sym e)) in
+          let wu′ = apart w u′ kw ku′ (λ e. q (sym e)) in
+          clash (sym
           (turned v (at′ w) (at′ u′) (at′ u) wu′ (apart u′ u ku′ ku (λ e. d (sym e))) wu
-           ∙ one-first v (at′ w) (at′ u) (at′ u′) wu (apart u u′ ku ku′ d) wu′
-           ∙ ap not (sym (turned v (at′ w) (at′ u) (at′ u′) wu (apart u u′ ku ku′ d) wu′) ∙ n u′ ku′))
+          ∙ one-first v (at′ w) (at′ u) (at′ u′) wu (apart u u′ ku ku′ d) wu′
+          ∙ ap not (sym (turned v (at′ w) (at′ u) (at′ u′) wu (apart u u′ ku ku′ d) wu′) ∙ n u′ ku′))
           ∙ n′ u ku)
 
   -- a direction o lies inside one corner only
@@ -189,12 +189,14 @@ module _ {I : Type 0} (same? : Discrete I) (at′ : I → Site) (v : Site) (K : 
       where
         turn-off : (i : I) → K i → Off v o (at′ i)
         turn-off i k = off-flip v (at′ i) o (clear i k)
+
         -- from u′, u comes before o
         first : ¬ (u ≡ u′) → ¬ (u ≡ w) → Dec (u′ ≡ w) → inside v (at′ u′) (at′ u) o ≡ true
         first d p (yes r) = ap (λ i. inside v (at′ i) (at′ u) o) r
-          ∙ turned v o (at′ w) (at′ u) (turn-off w kw) (apart w u kw ku (λ e. p (sym e))) (turn-off u ku)
-          ∙ turned v (at′ u) o (at′ w) (clear u ku) (turn-off w kw) (apart u w ku kw p) ∙ h
+            ∙ turned v o (at′ w) (at′ u) (turn-off w kw) (apart w u kw ku (λ e. p (sym e))) (turn-off u ku)
+            ∙ turned v (at′ u) o (at′ w) (clear u ku) (turn-off w kw) (apart u w ku kw p) ∙ h
         first d p (no r) = outside v (at′ u) o (at′ w) (at′ u′) (clear u ku) (apart u w ku kw p) (apart u u′ ku ku′ d) (turn-off w kw) (turn-off u′ ku′) (apart w u′ kw ku′ (λ e. r (sym e))) h (n u′ ku′)
+
         go : Dec (u ≡ u′) → Dec (u ≡ w) → Dec (u′ ≡ w′) → Dec (u′ ≡ w) → Dec (u ≡ w′) → u ≡ u′
         go (yes e) p q r s = e
         go (no d) (yes p) q r s = sym (alone u u′ ku ku′ (subst (λ i. Next u i) (sym p) n))
@@ -204,5 +206,5 @@ module _ {I : Type 0} (same? : Discrete I) (at′ : I → Site) (v : Site) (K : 
             ∙ one-first v (at′ u′) (at′ u) o (apart u′ u ku′ ku (λ e. d (sym e))) (clear u ku) (clear u′ ku′) ∙ ap not (first d p r))
         go (no d) (no p) (no q) r (no s) = clash (sym
             (before-trans v (at′ u′) (at′ u) o (at′ w′) (apart u′ u ku′ ku (λ e. d (sym e))) (clear u′ ku′) (apart u′ w′ ku′ kw′ q) (clear u ku) (apart u w′ ku kw′ s) (turn-off w′ kw′)
-              (first d p r) h′)
+            (first d p r) h′)
             ∙ n′ u ku)

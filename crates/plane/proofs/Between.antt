@@ -106,33 +106,49 @@ module _ (a b x u v o : Site) (w : Between a b x) (fr : Frame a x u v o)
       go false = wk-cycle v x u (wk-cycle u v x (wk-swap v u x (left-test v u x)))
 
   signs : Signs a x u v o (L a b u) (L a b v) (L a b o) (L a u v) (L a u o) (L a v o) side (L x u o) (L x v o) (L u v o)
-  signs = record { frame = fr; ayu? = weak axu!; ayv! = axv!; ayo! = axo!; auv! = left-sign a u v auv; auo! = left-sign a u o auo; avo! = left-sign a v o avo
-    ; yuv? = side?; yuo! = left-sign x u o xuo; yvo! = left-sign x v o xvo; uvo! = left-sign u v o uvo }
+  signs = record {
+    frame = fr;
+    ayu? = weak axu!;
+    ayv! = axv!;
+    ayo! = axo!;
+    auv! = left-sign a u v auv;
+    auo! = left-sign a u o auo;
+    avo! = left-sign a v o avo;
+    yuv? = side?;
+    yuo! = left-sign x u o xuo;
+    yvo! = left-sign x v o xvo;
+    uvo! = left-sign u v o uvo;
+  }
 
   pub entry-apart : crossing a b u v ≡ false → De o a x u v ≡ false
   unfolding side
   entry-apart out =
-    strip-signs a x u v o signs (prq a x o axo! ∙ sym (prq a b o (left-sign a b o abo)) ∙ above) (qpr a x u axu!)
+      strip-signs a x u v o signs (prq a x o axo! ∙ sym (prq a b o (left-sign a b o abo)) ∙ above) (qpr a x u axu!)
       (rw (prq u v o (left-sign u v o uvo), qrp x u o (left-sign x u o xuo), prq x v o (left-sign x v o xvo), qrp x v o (left-sign x v o xvo), prq x u o (left-sign x u o xuo))
-        (pick (not (L u v o)) (L x u o) (not (L x v o)) (L x v o) (not (L x u o)) (L u v x) (L v u x)))
-    ∙ rest (xor (L a b u) (L a b v)) out
+      (pick (not (L u v o)) (L x u o) (not (L x v o)) (L x v o) (not (L x u o)) (L u v x) (L v u x)))
+      ∙ rest (xor (L a b u) (L a b v)) out
     where
       fin : (p c : Bool) → xor p (cond c p (not (not p))) ≡ false
       fin true true = refl
       fin true false = refl
       fin false true = refl
       fin false false = refl
+
       alike : (p q : Bool) → xor p q ≡ false → q ≡ p
       alike true true e = refl
       alike true false e = sym e
       alike false true e = e
       alike false false e = refl
+
       uva! : St (L a u v) (det u v a)
       uva! = st-cycle a u v (left-sign a u v auv)
+
       uvb! : St (L u v b) (det u v b)
       uvb! = left-sign u v b (off-cycle b u v buv)
+
       beside : xor (L u v a) (L u v b) ≡ false → St (L a u v) (det u v x)
       beside e = by-both a b x w u v uva! (subst (λ t. St t (det u v b)) (alike (L u v a) (L u v b) e ∙ qrp a u v (left-sign a u v auv)) uvb!)
+
       rest : (c : Bool) → and c (xor (L u v a) (L u v b)) ≡ false → and c (xor (L a u v) (cond (not (L u v o)) (L u v x) (not (L v u x)))) ≡ false
       rest false e = refl
       rest true e = rw (pqr u v x (beside e), qpr u v x (beside e)) (fin (L a u v) (not (L u v o)))
@@ -163,15 +179,33 @@ module _ (a b x v o : Site) (w : Between a b x) (fr : Frame a x b v o)
   xab = ap (ltZ (pos 0)) (sym (det-cycle x a b) ∙ on-line a b x w)
 
   signs₁ : Signs a x b v o true (L a b v) (L a b o) (L a b v) (L a b o) (L a v o) (L a b v) (L a b o) (L x v o) (L b v o)
-  signs₁ = record { frame = fr; ayu? = any true (det a x b) axb; ayv! = axv₁; ayo! = axo₁; auv! = left-sign a b v abv; auo! = left-sign a b o abo; avo! = left-sign a v o avo
-    ; yuv? = weak (xbz v abv); yuo! = xbz o abo; yvo! = left-sign x v o xvo; uvo! = left-sign b v o bvo }
+  signs₁ = record {
+    frame = fr;
+    ayu? = any true (det a x b) axb;
+    ayv! = axv₁;
+    ayo! = axo₁;
+    auv! = left-sign a b v abv;
+    auo! = left-sign a b o abo;
+    avo! = left-sign a v o avo;
+    yuv? = weak (xbz v abv);
+    yuo! = xbz o abo;
+    yvo! = left-sign x v o xvo;
+    uvo! = left-sign b v o bvo;
+  }
 
   pub entry-b : De o a x b v ≡ false
   entry-b =
-    strip-signs a x b v o signs₁ (prq a x o axo₁ ∙ sym (prq a b o (left-sign a b o abo)) ∙ above) xab
-      (rw (prq b v o (left-sign b v o bvo), qrp x b o (xbz o abo), prq x v o (left-sign x v o xvo), qrp x b v (xbz v abv),
-           qrp x v o (left-sign x v o xvo), prq x b o (xbz o abo), rqp x b v (xbz v abv)) refl)
-    ∙ fin (L a b v)
+      strip-signs a x b v o signs₁ (prq a x o axo₁ ∙ sym (prq a b o (left-sign a b o abo)) ∙ above) xab
+      (rw (
+        prq b v o (left-sign b v o bvo),
+        qrp x b o (xbz o abo),
+        prq x v o (left-sign x v o xvo),
+        qrp x b v (xbz v abv),
+        qrp x v o (left-sign x v o xvo),
+        prq x b o (xbz o abo),
+        rqp x b v (xbz v abv),
+      ) refl)
+      ∙ fin (L a b v)
     where
       fin : (t : Bool) → and (xor true t) (xor t t) ≡ false
       fin true = refl

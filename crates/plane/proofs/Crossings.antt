@@ -23,14 +23,19 @@ use Rattle.plane.proofs.DartLaws.{Floor, is, xor-false}
 
 abbrev A : Vectorᵉ
 A = record { x = var 0; y = var 1 }
+
 abbrev B : Vectorᵉ
 B = record { x = var 2; y = var 3 }
+
 abbrev P : Siteᵉ
 P = record { x = var 6; y = var 7; h = var 8 }
+
 abbrev Q : Siteᵉ
 Q = record { x = var 9; y = var 10; h = var 11 }
+
 abbrev at-node : Vectorᵉ → Siteᵉ
 at-node p = record { x = p .x; y = p .y; h = lit (pos 1) }
+
 abbrev at-place : E → E → Vectorᵉ → Vectorᵉ → Siteᵉ
 at-place c e s t = record { x = add (mul e (s .x)) (mul c (t .x)); y = add (mul e (s .y)) (mul c (t .y)); h = add e c }
 
@@ -57,6 +62,7 @@ below-zero e c y z h hc s = go (e *ℤ y) (c *ℤ z) (ap (λ w. e *ℤ w) h ∙ 
   where
     pc : Wk true c
     pc = record { is = hc }
+
     go : (y z : ℤ) → y ≡ pos 0 → pos 0 ≤ℤ negℤ z → ltZ (pos 0) (y +ℤ z) ≡ false
     go y z h k = sym (false-is-lt (pos 0) (y +ℤ z) (omega (arith, ints)))
 
@@ -70,7 +76,7 @@ module _ (c e : ℤ) (d s t w : Vector) (hc : pos 0 ≤ℤ c) (hw : Sided d s t 
   unfolding L
   x-not-left h = ap (ltZ (pos 0)) (place-is (node w) (node s) c e s t)
       ∙ below-zero e c (det (node w) (node s) (node s)) (det (node w) (node s) (node t)) (sym (det-cycle (node w) (node s) (node s)) ∙ det-same (node s) (node w)) hc
-          (st-cycle (node t) (node w) (node s) (st-cycle (node s) (node t) (node w) h))
+      (st-cycle (node t) (node w) (node s) (st-cycle (node s) (node t) (node w) h))
 
   pub dart-s : hit (far d) (place c e s t) (node s) (node w) ≡ false
   dart-s = rw (pqr (node s) (far d) (node w) (hw .by-s)) (go (L (node s) (node t) (node w)) (left-sign (node s) (node t) (node w) (hw .off)))
@@ -79,6 +85,7 @@ module _ (c e : ℤ) (d s t w : Vector) (hc : pos 0 ≤ℤ c) (hw : Sided d s t 
       and-false true true r e = e
       and-false true false r e = refl
       and-false false q r e = refl
+
       go : (b : Bool) → St b (det (node s) (node t) (node w)) → cond b (seg (far d) (place c e s t) (node s) (node w)) (seg (far d) (place c e s t) (node w) (node s)) ≡ false
       go true h = ap (λ z. and z (and (L (place c e s t) (far d) (node w)) (L (node s) (node w) (place c e s t)))) x-not-higher
       go false h = and-false (L (node w) (far d) (place c e s t)) (L (place c e s t) (far d) (node s)) (L (node w) (node s) (place c e s t)) (x-not-left h)
@@ -86,7 +93,6 @@ module _ (c e : ℤ) (d s t w : Vector) (hc : pos 0 ≤ℤ c) (hw : Sided d s t 
 -- ---- over a floor: s and t nodes, every other node on one side of both levels, t just below s
 module _ {I : Type 0} (at′ : I → Vector) (d : Vector) (f : Floor I at′ d) (s t : I) (st : ¬ (s ≡ t))
     (sided : (z : I) → ¬ (s ≡ z) → ¬ (t ≡ z) → Sided d (at′ s) (at′ t) (at′ z)) (low : St false (det (node (at′ s)) (far d) (node (at′ t)))) where
-
   -- u v crosses s t, with four different ends, strictly nearer to t than the place c : e
   abbrev pub nears : ℤ → ℤ → I → I → Bool
   nears c e u v = and (not (or (is (f .same? u s)) (is (f .same? v s)))) (nearer c e (at′ s) (at′ t) (at′ u) (at′ v))
@@ -104,14 +110,14 @@ module _ {I : Type 0} (at′ : I → Vector) (d : Vector) (f : Floor I at′ d) 
       where
         rev : {i j : I} → ¬ (i ≡ j) → ¬ (j ≡ i)
         rev n e = n (sym e)
+
         go : (us : Dec (u ≡ s)) (vs : Dec (v ≡ s))
-          → xor (hit (far d) (place c e (at′ s) (at′ t)) (node (at′ u)) (node (at′ v))) (hit (far d) (node (at′ t)) (node (at′ u)) (node (at′ v)))
+            → xor (hit (far d) (place c e (at′ s) (at′ t)) (node (at′ u)) (node (at′ v))) (hit (far d) (node (at′ t)) (node (at′ u)) (node (at′ v)))
             ≡ and (not (or (is us) (is vs))) (nearer c e (at′ s) (at′ t) (at′ u) (at′ v))
         go (yes p) vs = ap (λ i. xor (hit (far d) (place c e (at′ s) (at′ t)) (node (at′ i)) (node (at′ v))) (hit (far d) (node (at′ t)) (node (at′ i)) (node (at′ v)))) p
-          ∙ hit-s v (λ k. uv (p ∙ k)) tv
+            ∙ hit-s v (λ k. uv (p ∙ k)) tv
         go (no p) (yes q) = ap₂ xor (hit-twin (far d) (place c e (at′ s) (at′ t)) (node (at′ u)) (node (at′ v)) (f .along u v uv)) (hit-twin (far d) (node (at′ t)) (node (at′ u)) (node (at′ v)) (f .along u v uv))
-          ∙ ap (λ i. xor (hit (far d) (place c e (at′ s) (at′ t)) (node (at′ i)) (node (at′ u))) (hit (far d) (node (at′ t)) (node (at′ i)) (node (at′ u)))) q
-          ∙ hit-s u (rev p) tu
+            ∙ ap (λ i. xor (hit (far d) (place c e (at′ s) (at′ t)) (node (at′ i)) (node (at′ u))) (hit (far d) (node (at′ t)) (node (at′ i)) (node (at′ u)))) q
+            ∙ hit-s u (rev p) tu
         go (no p) (no q) = count c e d (at′ s) (at′ t) (at′ u) (at′ v) hc he (sided u (rev p) tu) (sided v (rev q) tv)
-          (f .off u v s uv p q) (f .off u v t uv (rev tu) (rev tv)) (f .along u v uv)
-
+            (f .off u v s uv p q) (f .off u v t uv (rev tu) (rev tv)) (f .along u v uv)

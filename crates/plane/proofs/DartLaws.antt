@@ -36,9 +36,19 @@ module _ {I : Type 0} (at′ : I → Vector) (d : Vector) (f : Floor I at′ d) 
   general₄ a b w ab aw bw = record { ha = one; hb = one; hw = one; ho = refl; abw = f .off a b w ab aw bw; abo = f .along a b ab; awo = f .along a w aw; bwo = f .along b w bw }
 
   pub general : (a y u v : I) → ¬ (a ≡ y) → ¬ (a ≡ u) → ¬ (a ≡ v) → ¬ (y ≡ u) → ¬ (y ≡ v) → ¬ (u ≡ v) → General (S a) (S y) (S u) (S v) o
-  general a y u v ay au av yu yv uv = record { frame = record { ha = one; hy = one; hu = one; hv = one; ho = refl }
-    ; ayu = f .off a y u ay au yu; ayv = f .off a y v ay av yv; ayo = f .along a y ay; auv = f .off a u v au av uv; auo = f .along a u au; avo = f .along a v av
-    ; yuv = f .off y u v yu yv uv; yuo = f .along y u yu; yvo = f .along y v yv; uvo = f .along u v uv }
+  general a y u v ay au av yu yv uv = record {
+    frame = record { ha = one; hy = one; hu = one; hv = one; ho = refl };
+    ayu = f .off a y u ay au yu;
+    ayv = f .off a y v ay av yv;
+    ayo = f .along a y ay;
+    auv = f .off a u v au av uv;
+    auo = f .along a u au;
+    avo = f .along a v av;
+    yuv = f .off y u v yu yv uv;
+    yuo = f .along y u yu;
+    yvo = f .along y v yv;
+    uvo = f .along u v uv;
+  }
 
   pub back : {i j : I} → ¬ (i ≡ j) → ¬ (j ≡ i)
   back n e = n (sym e)
@@ -47,6 +57,7 @@ module _ {I : Type 0} (at′ : I → Vector) (d : Vector) (f : Floor I at′ d) 
   module _ (a b : I) (ab : ¬ (a ≡ b)) (above : up o (S a) (S b) ≡ true) where
     abbrev pub A : Site
     A = S a
+
     abbrev pub B : Site
     B = S b
 
@@ -63,7 +74,7 @@ module _ {I : Type 0} (at′ : I → Vector) (d : Vector) (f : Floor I at′ d) 
     dart-law u v uv apart = go (f .same? u a) (f .same? v a) (f .same? u b) (f .same? v b)
       where
         go : (ua : Dec (u ≡ a)) (va : Dec (v ≡ a)) (ub : Dec (u ≡ b)) (vb : Dec (v ≡ b))
-          → De o A B (S u) (S v) ≡ xor (and (is ua) (Sa o A B (S v))) (xor (and (is va) (Sa o A B (S u))) (xor (and (is ub) (Sb o A B (S v))) (and (is vb) (Sb o A B (S u)))))
+            → De o A B (S u) (S v) ≡ xor (and (is ua) (Sa o A B (S v))) (xor (and (is va) (Sa o A B (S u))) (xor (and (is ub) (Sb o A B (S v))) (and (is vb) (Sb o A B (S u)))))
         go (yes p) (yes q) ub vb = absurd (uv (p ∙ sym q))
         go (yes p) (no q) (yes r) vb = absurd (ab (sym p ∙ r))
         go (yes p) (no q) (no r) (yes s) = ap₂ (λ i j. De o A B (S i) (S j)) p s ∙ dart-ab A B o (f .along a b ab) above

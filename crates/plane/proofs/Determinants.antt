@@ -17,12 +17,16 @@ detᵉ p q r = add (add (mul (p .h) (sub (mul (q .x) (r .y)) (mul (q .y) (r .x))
 
 abbrev pub P : Siteᵉ
 P = record { x = var 0; y = var 1; h = var 2 }
+
 abbrev pub Q : Siteᵉ
 Q = record { x = var 3; y = var 4; h = var 5 }
+
 abbrev pub R : Siteᵉ
 R = record { x = var 6; y = var 7; h = var 8 }
+
 abbrev pub S : Siteᵉ
 S = record { x = var 9; y = var 10; h = var 11 }
+
 abbrev pub U : Siteᵉ
 U = record { x = var 12; y = var 13; h = var 14 }
 
@@ -54,8 +58,10 @@ weights a b c d = ring (env a b c d d)
 -- of nodes it is the turn, of a direction the cross product
 abbrev A : Vectorᵉ
 A = record { x = var 0; y = var 1 }
+
 abbrev B : Vectorᵉ
 B = record { x = var 2; y = var 3 }
+
 abbrev C : Vectorᵉ
 C = record { x = var 4; y = var 5 }
 

@@ -24,16 +24,22 @@ use Rattle.plane.proofs.Crossings.{place-is}
 
 abbrev A : Vectorᵉ
 A = record { x = var 0; y = var 1 }
+
 abbrev B : Vectorᵉ
 B = record { x = var 2; y = var 3 }
+
 abbrev C : Vectorᵉ
 C = record { x = var 4; y = var 5 }
+
 abbrev F : Vectorᵉ
 F = record { x = var 6; y = var 7 }
+
 abbrev dirᵉ : E → Vectorᵉ → Vectorᵉ → Vectorᵉ
 dirᵉ n s t = record { x = sub (mul n (sub (t .x) (s .x))) (sub (t .y) (s .y)); y = add (mul n (sub (t .y) (s .y))) (sub (t .x) (s .x)) }
+
 abbrev at-node : Vectorᵉ → Siteᵉ
 at-node p = record { x = p .x; y = p .y; h = lit (pos 1) }
+
 abbrev at-far : Vectorᵉ → Siteᵉ
 at-far p = record { x = p .x; y = p .y; h = lit (pos 0) }
 
@@ -72,13 +78,15 @@ along N s t i j hd hw b = off-flip (node i) (far (dir N s t)) (node j) (λ e. go
   where
     minus : (m : ℤ) (z : ℤ) → z ≡ pos 0 → z -ℤ m ≡ pos 0 → m ≡ pos 0
     minus m z h e = omega (arith, ints)
+
     parts : (p q r s : ℤ) → p +ℤ q ≡ r → p ≡ pos 0 → q ≡ pos 0 → pos 0 <ℤ r → ⊥
     parts p q r s e f g h = omega (arith, ints)
+
     go : Dec (cross (diff t s) (diff j i) ≡ pos 0) → N *ℤ cross (diff t s) (diff j i) -ℤ dot (diff t s) (diff j i) ≡ pos 0 → ⊥
     go (no n) e = nonzero (scaled N (cross (diff t s) (diff j i)) (dot (diff t s) (diff j i)) (sure (cross (diff t s) (diff j i)) n) (b .0) (b .1)) e
     go (yes z) e =
-      let m : dot (diff t s) (diff j i) ≡ pos 0 = minus (dot (diff t s) (diff j i)) (N *ℤ cross (diff t s) (diff j i)) (ap (λ k. N *ℤ k) z ∙ *ℤ-zero N) e in
-      parts (cross (diff t s) (diff j i) *ℤ cross (diff t s) (diff j i)) (dot (diff t s) (diff j i) *ℤ dot (diff t s) (diff j i)) (dot (diff t s) (diff t s) *ℤ dot (diff j i) (diff j i)) (pos 0)
+        let m : dot (diff t s) (diff j i) ≡ pos 0 = minus (dot (diff t s) (diff j i)) (N *ℤ cross (diff t s) (diff j i)) (ap (λ k. N *ℤ k) z ∙ *ℤ-zero N) e in
+        parts (cross (diff t s) (diff j i) *ℤ cross (diff t s) (diff j i)) (dot (diff t s) (diff j i) *ℤ dot (diff t s) (diff j i)) (dot (diff t s) (diff t s) *ℤ dot (diff j i) (diff j i)) (pos 0)
         (lagrange (diff t s) (diff j i)) (ap (λ k. cross (diff t s) (diff j i) *ℤ k) z ∙ *ℤ-zero (cross (diff t s) (diff j i))) (ap (λ k. dot (diff t s) (diff j i) *ℤ k) m ∙ *ℤ-zero (dot (diff t s) (diff j i))) (mul-pos hd hw)
 
 -- a place strictly between s and t is on no node's level

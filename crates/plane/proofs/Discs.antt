@@ -45,6 +45,7 @@ discs a b c d true false false true hp hq hr hs e = turned (crossing-disc a b d 
   where
     minus : (z : ℤ) → pos 0 <ℤ z → negℤ z <ℤ pos 0
     minus z h = omega (arith, ints)
+
     turned : InDisc a b d c → InDisc a b c d
     turned (inl h) = inr (inl h)
     turned (inr (inl h)) = inl h

@@ -20,4 +20,3 @@ pub record Floor (I : Type 0) (at′ : I → Vector) (d : Vector) : Type 0 where
   pub same? : Discrete I
   pub off : (i j k : I) → ¬ (i ≡ j) → ¬ (i ≡ k) → ¬ (j ≡ k) → Off (node (at′ i)) (node (at′ j)) (node (at′ k))
   pub along : (i j : I) → ¬ (i ≡ j) → Off (node (at′ i)) (node (at′ j)) (far d)
-

@@ -27,10 +27,13 @@ innerᵉ a b c = dotᵉ (diffᵉ a c) (diffᵉ b c)
 -- the first four points
 abbrev pub A : Vectorᵉ
 A = record { x = var 0; y = var 1 }
+
 abbrev pub B : Vectorᵉ
 B = record { x = var 2; y = var 3 }
+
 abbrev pub C : Vectorᵉ
 C = record { x = var 4; y = var 5 }
+
 abbrev pub D : Vectorᵉ
 D = record { x = var 6; y = var 7 }
 

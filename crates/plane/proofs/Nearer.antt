@@ -29,17 +29,22 @@ dirᵉ n s t = record { x = sub (mul n (sub (t .x) (s .x))) (sub (t .y) (s .y));
 
 abbrev A : Vectorᵉ
 A = record { x = var 0; y = var 1 }
+
 abbrev B : Vectorᵉ
 B = record { x = var 2; y = var 3 }
+
 abbrev C : Vectorᵉ
 C = record { x = var 4; y = var 5 }
+
 abbrev F : Vectorᵉ
 F = record { x = var 6; y = var 7 }
 
 abbrev at-node : Vectorᵉ → Siteᵉ
 at-node p = record { x = p .x; y = p .y; h = lit (pos 1) }
+
 abbrev at-far : Vectorᵉ → Siteᵉ
 at-far p = record { x = p .x; y = p .y; h = lit (pos 0) }
+
 abbrev at-place : E → E → Vectorᵉ → Vectorᵉ → Siteᵉ
 at-place c e s t = record { x = add (mul e (s .x)) (mul c (t .x)); y = add (mul e (s .y)) (mul c (t .y)); h = add e c }
 
@@ -68,12 +73,16 @@ scaled N k m {b = b} s lo hi = go b (s .is)
   where
     big : pos 0 ≤ℤ N
     big = omega (arith, ints)
+
     rest : (z w y : ℤ) → z ≡ w +ℤ N → pos 0 ≤ℤ w → pos 0 <ℤ (z -ℤ m)
     rest z w y e h = omega (arith, ints)
+
     rest′ : (z w y : ℤ) → negℤ z ≡ w +ℤ N → pos 0 ≤ℤ w → pos 0 <ℤ negℤ (z -ℤ m)
     rest′ z w y e h = omega (arith, ints)
+
     one-less : (y : ℤ) → pos 0 <ℤ y → pos 0 ≤ℤ (y -ℤ pos 1)
     one-less y h = omega (arith, ints)
+
     go : (b : Bool) → Strict b k → St b (N *ℤ k -ℤ m)
     go true h = record { is = rest (N *ℤ k) (N *ℤ (k -ℤ pos 1)) k (scaled-up N k) (mul-nonneg big (one-less k h)) }
     go false h = record { is = rest′ (N *ℤ k) (N *ℤ (negℤ k -ℤ pos 1)) k (scaled-down N k) (mul-nonneg big (one-less (negℤ k) h)) }
@@ -159,11 +168,11 @@ left-place lo hi s t c e = ap (ltZ (pos 0)) (det-place lo hi s t c e)
 pub near-count : (c e : ℤ) (s t lo hi : Vector) → pos 0 ≤ℤ c → pos 0 <ℤ e → St false (turn s t lo) → St true (turn s t hi)
     → Off (node lo) (node hi) (node s) → Off (node lo) (node hi) (node t)
     → xor (L (node lo) (node hi) (place c e s t)) (L (node lo) (node hi) (node t))
-      ≡ and (xor (L (node lo) (node hi) (node s)) (L (node lo) (node hi) (node t))) (ltZ (c *ℤ size (turn lo hi t)) (size (turn lo hi s) *ℤ e))
+    ≡ and (xor (L (node lo) (node hi) (node s)) (L (node lo) (node hi) (node t))) (ltZ (c *ℤ size (turn lo hi t)) (size (turn lo hi s) *ℤ e))
 near-count c e s t lo hi hc he hlo hhi ns nt =
     ap (λ b. xor b (L (node lo) (node hi) (node t))) (left-place lo hi s t c e)
     ∙ numbers c e (turn lo hi s) (turn lo hi t) hc he (less (turn lo hi s) (turn lo hi t) (turn s t lo) (turn s t hi) (falls lo hi s t) (hlo .is) (hhi .is))
-        (L (node lo) (node hi) (node s)) (L (node lo) (node hi) (node t)) (turn-sign lo hi s ns) (turn-sign lo hi t nt)
+    (L (node lo) (node hi) (node s)) (L (node lo) (node hi) (node t)) (turn-sign lo hi s ns) (turn-sign lo hi t nt)
 
 xor-not : (a b : Bool) → xor (not a) (not b) ≡ xor a b
 xor-not true true = refl
@@ -173,7 +182,7 @@ xor-not false false = refl
 
 pub near-twin : (c e : ℤ) (s t u v : Vector) → Off (node u) (node v) (node s) → Off (node u) (node v) (node t)
     → and (xor (L (node v) (node u) (node s)) (L (node v) (node u) (node t))) (ltZ (c *ℤ size (turn v u t)) (size (turn v u s) *ℤ e))
-      ≡ and (xor (L (node u) (node v) (node s)) (L (node u) (node v) (node t))) (ltZ (c *ℤ size (turn u v t)) (size (turn u v s) *ℤ e))
+    ≡ and (xor (L (node u) (node v) (node s)) (L (node u) (node v) (node t))) (ltZ (c *ℤ size (turn u v t)) (size (turn u v s) *ℤ e))
 near-twin c e s t u v ns nt = ap₂ and
     (ap₂ xor (qpr (node u) (node v) (node s) (left-sign (node u) (node v) (node s) ns)) (qpr (node u) (node v) (node t) (left-sign (node u) (node v) (node t) nt)) ∙ xor-not (L (node u) (node v) (node s)) (L (node u) (node v) (node t)))
     (ap₂ (λ p q. ltZ (c *ℤ p) (q *ℤ e)) (ap size (turn-swap u v t) ∙ size-minus (turn u v t)) (ap size (turn-swap u v s) ∙ size-minus (turn u v s)))
@@ -189,7 +198,7 @@ sided N s t z n ws wt = record { off = n; by-s = level-s N s t z n ws; by-t = le
 
 two-hits : (bu bv w p p′ q q′ : Bool) → mixed3 bu (not bv) w ≡ true
     → xor (cond w (and (not bu) (and bv p)) (and (not bv) (and bu p′))) (cond w (and (not bu) (and bv q)) (and (not bv) (and bu q′)))
-      ≡ and (xor bu bv) (cond bv (xor p q) (xor p′ q′))
+    ≡ and (xor bu bv) (cond bv (xor p q) (xor p′ q′))
 two-hits true true true p p′ q q′ e = refl
 two-hits true true false p p′ q q′ e = refl
 two-hits true false true p p′ q q′ e = absurd (subst T (sym e) tt)
@@ -204,24 +213,36 @@ pub count : (c e : ℤ) (d s t u v : Vector) → pos 0 ≤ℤ c → pos 0 <ℤ e
     → Off (node u) (node v) (node s) → Off (node u) (node v) (node t) → Off (node u) (node v) (far d)
     → xor (hit (far d) (place c e s t) (node u) (node v)) (hit (far d) (node t) (node u) (node v)) ≡ nearer c e s t u v
 count c e d s t u v hc he hu hv ns nt nd =
-    rw (prq (node u) (node v) (far d) (left-sign (node u) (node v) (far d) nd),
-        rqp (place c e s t) (far d) (node u) xu, pqr (place c e s t) (far d) (node v) xv, rqp (place c e s t) (far d) (node v) xv, pqr (place c e s t) (far d) (node u) xu,
-        rqp (node t) (far d) (node u) (hu .by-t), pqr (node t) (far d) (node v) (hv .by-t), rqp (node t) (far d) (node v) (hv .by-t), pqr (node t) (far d) (node u) (hu .by-t))
-      (two-hits (L (node s) (node t) (node u)) (L (node s) (node t) (node v)) (not (L (node u) (node v) (far d))) (L (node u) (node v) (place c e s t)) (L (node v) (node u) (place c e s t)) (L (node u) (node v) (node t)) (L (node v) (node u) (node t)) order ∙ last (L (node s) (node t) (node u)) (L (node s) (node t) (node v)) (turn-sign s t u (hu .off)) (turn-sign s t v (hv .off)))
+    rw (
+      prq (node u) (node v) (far d) (left-sign (node u) (node v) (far d) nd),
+      rqp (place c e s t) (far d) (node u) xu,
+      pqr (place c e s t) (far d) (node v) xv,
+      rqp (place c e s t) (far d) (node v) xv,
+      pqr (place c e s t) (far d) (node u) xu,
+      rqp (node t) (far d) (node u) (hu .by-t),
+      pqr (node t) (far d) (node v) (hv .by-t),
+      rqp (node t) (far d) (node v) (hv .by-t),
+      pqr (node t) (far d) (node u) (hu .by-t),
+    )
+    (two-hits (L (node s) (node t) (node u)) (L (node s) (node t) (node v)) (not (L (node u) (node v) (far d))) (L (node u) (node v) (place c e s t)) (L (node v) (node u) (place c e s t)) (L (node u) (node v) (node t)) (L (node v) (node u) (node t)) order ∙ last (L (node s) (node t) (node u)) (L (node s) (node t) (node v)) (turn-sign s t u (hu .off)) (turn-sign s t v (hv .off)))
   where
     xu : St (L (node s) (node t) (node u)) (det (place c e s t) (far d) (node u))
     xu = level-x c e s t u d hc he (hu .by-s) (hu .by-t)
+
     xv : St (L (node s) (node t) (node v)) (det (place c e s t) (far d) (node v))
     xv = level-x c e s t v d hc he (hv .by-s) (hv .by-t)
+
     one : pos 0 <ℤ pos 1
     one = record { lt = tt }
+
     order : mixed3 (L (node s) (node t) (node u)) (not (L (node s) (node t) (node v))) (not (L (node u) (node v) (far d))) ≡ true
     order = levels (node u) (node t) (node v) (far d) one one one refl
-      (st-cycle (far d) (node u) (node t) (st-cycle (node t) (far d) (node u) (hu .by-t)))
-      (weak (st-cycle (far d) (node t) (node v) (st-swap (node t) (far d) (node v) (hv .by-t))))
-      (weak (left-sign (node u) (node v) (far d) nd))
+        (st-cycle (far d) (node u) (node t) (st-cycle (node t) (far d) (node u) (hu .by-t)))
+        (weak (st-cycle (far d) (node t) (node v) (st-swap (node t) (far d) (node v) (hv .by-t))))
+        (weak (left-sign (node u) (node v) (far d) nd))
+
     last : (bu bv : Bool) → St bu (turn s t u) → St bv (turn s t v)
-      → and (xor bu bv) (cond bv (xor (L (node u) (node v) (place c e s t)) (L (node u) (node v) (node t))) (xor (L (node v) (node u) (place c e s t)) (L (node v) (node u) (node t))))
+        → and (xor bu bv) (cond bv (xor (L (node u) (node v) (place c e s t)) (L (node u) (node v) (node t))) (xor (L (node v) (node u) (place c e s t)) (L (node v) (node u) (node t))))
         ≡ and (and (xor bu bv) (xor (L (node u) (node v) (node s)) (L (node u) (node v) (node t)))) (ltZ (c *ℤ size (turn u v t)) (size (turn u v s) *ℤ e))
     last true true su sv = refl
     last false false su sv = refl

@@ -9,7 +9,7 @@ use Rattle.plane.specs.declared.Point.{Point}
 use Rattle.plane.specs.Plane.{way, positive}
 use Rattle.plane.specs.Laws.{left, above, in-strip, hit, cross-over, Spread, PlaneLaws, _⊕_}
 use Rattle.plane.proofs.Vectors.{Vector, cross, turn, diff, position}
-use Rattle.plane.proofs.Sites.{Site, det, node, far, L, up, In, De, crossing} 
+use Rattle.plane.proofs.Sites.{Site, det, node, far, L, up, In, De, crossing}
 use Rattle.plane.proofs.Ring.{add, ring}
 use Rattle.plane.proofs.Identities.{plücker, quad, turnᵉ, A, B, C, D, env}
 use Rattle.plane.proofs.Facts.{crossing-disc}

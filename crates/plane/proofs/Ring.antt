@@ -139,8 +139,8 @@ ev-times (con a) r ρ = ev-scale a r ρ
 ev-times (node p q) r ρ =
     ev-plus (low (λ t. times p t) r) (shift (times q r)) ρ
     ∙ ap₂ _+ℤ_
-        (ev-low (λ t. times p t) (ev p (rest ρ)) ρ (λ t. ev-times p t (rest ρ)) (λ c. ev-times p (con c) (rest ρ)) r)
-        (ev-shift (times q r) ρ ∙ ap (λ z. first ρ *ℤ z) (ev-times q r ρ) ∙ sym (mul-assoc (first ρ) (ev q ρ) (ev r ρ)))
+    (ev-low (λ t. times p t) (ev p (rest ρ)) ρ (λ t. ev-times p t (rest ρ)) (λ c. ev-times p (con c) (rest ρ)) r)
+    (ev-shift (times q r) ρ ∙ ap (λ z. first ρ *ℤ z) (ev-times q r ρ) ∙ sym (mul-assoc (first ρ) (ev q ρ) (ev r ρ)))
     ∙ sym (add-mul (ev p (rest ρ)) (first ρ *ℤ ev q ρ) (ev r ρ))
 
 ev-var : (i : ℕ) (ρ : List ℤ) → ev (varP i) ρ ≡ nth ρ i

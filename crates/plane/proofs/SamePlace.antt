@@ -20,14 +20,19 @@ use Rattle.plane.proofs.Nearer.{size, size-pos, size-neg}
 
 abbrev A : Vectorᵉ
 A = record { x = var 0; y = var 1 }
+
 abbrev B : Vectorᵉ
 B = record { x = var 2; y = var 3 }
+
 abbrev C : Vectorᵉ
 C = record { x = var 4; y = var 5 }
+
 abbrev D : Vectorᵉ
 D = record { x = var 6; y = var 7 }
+
 abbrev F : Vectorᵉ
 F = record { x = var 8; y = var 9 }
+
 abbrev G : Vectorᵉ
 G = record { x = var 10; y = var 11 }
 
@@ -95,10 +100,10 @@ pub same-place : (s t u v p q : Vector)
     → crossing (node u) (node v) (node p) (node q) ≡ true
 same-place s t u v p q su sv sp sq us ut ps pt up uq pu pv h k e =
     let l : turn u v s *ℤ turn p q t ≡ turn u v t *ℤ turn p q s = sizes (turn u v s) (turn u v t) (turn p q s) (turn p q t) _ _ _ _
-          (turn-sign u v s us) (turn-sign u v t ut) (turn-sign p q s ps) (turn-sign p q t pt) (and-second _ _ h) (and-second _ _ k) e in
+    (turn-sign u v s us) (turn-sign u v t ut) (turn-sign p q s ps) (turn-sign p q t pt) (and-second _ _ h) (and-second _ _ k) e in
     and-both
-      (sides s t p q u v (*ℤ-comm (turn p q s) (turn u v t) ∙ sym l ∙ *ℤ-comm (turn u v s) (turn p q t)) sp sq up uq (and-first _ _ k))
-      (sides s t u v p q l su sv pu pv (and-first _ _ h))
+    (sides s t p q u v (*ℤ-comm (turn p q s) (turn u v t) ∙ sym l ∙ *ℤ-comm (turn u v s) (turn p q t)) sp sq up uq (and-first _ _ k))
+    (sides s t u v p q l su sv pu pv (and-first _ _ h))
 
 -- SAME PLACE, a shared end u: no
 pub same-place-shared : (s t u v q : Vector)
@@ -106,12 +111,13 @@ pub same-place-shared : (s t u v q : Vector)
     → crossing (node s) (node t) (node u) (node v) ≡ true → crossing (node s) (node t) (node u) (node q) ≡ true → Level s t u v u q → ⊥
 same-place-shared s t u v q su us ut qs qt qv h k e =
     let l : turn u v s *ℤ turn u q t ≡ turn u v t *ℤ turn u q s = sizes (turn u v s) (turn u v t) (turn u q s) (turn u q t) _ _ _ _
-          (turn-sign u v s us) (turn-sign u v t ut) (turn-sign u q s qs) (turn-sign u q t qt) (and-second _ _ h) (and-second _ _ k) e in
+    (turn-sign u v s us) (turn-sign u v t ut) (turn-sign u q s qs) (turn-sign u q t qt) (and-second _ _ h) (and-second _ _ k) e in
     let z : turn s t u *ℤ turn u q v ≡ pos 0 = sym (equal (turn s t v *ℤ turn u q u) (turn s t u *ℤ turn u q v) (turn u v s *ℤ turn u q t) (turn u v t *ℤ turn u q s) (meet s t u v u q) l) ∙ ap (λ w. turn s t v *ℤ w) (still u q) ∙ *ℤ-zero (turn s t v) in
     product (turn s t u *ℤ turn u q v) (st-mul (turn-sign s t u su) (turn-sign u q v qv)) z
   where
     still : (u q : Vector) → turn u q u ≡ pos 0
     still u q = ring (u .x ∷ u .y ∷ q .x ∷ q .y ∷ []) (turnᵉ A B A) (lit (pos 0)) tt
+
     product : (z : ℤ) {b : Bool} → St b z → z ≡ pos 0 → ⊥
     product z {b = b} s e = no-zero b (s .is)
       where

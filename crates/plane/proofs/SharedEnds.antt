@@ -88,10 +88,13 @@ module _ (a b o : Site) (n : Off a b o) (above : up o a b ≡ true) where
 module _ (a b w o : Site) (g : General₄ a b w o) (above : up o a b ≡ true) where
   abw! : St (L a b w) (det a b w)
   abw! = left-sign a b w (g .abw)
+
   abo! : St (L a b o) (det a b o)
   abo! = left-sign a b o (g .abo)
+
   awo! : St (L a w o) (det a w o)
   awo! = left-sign a w o (g .awo)
+
   bwo! : St (L b w o) (det b w o)
   bwo! = left-sign b w o (g .bwo)
 
@@ -104,15 +107,15 @@ module _ (a b w o : Site) (g : General₄ a b w o) (above : up o a b ≡ true) w
   pub dart-a : De o a b a w ≡ Sa o a b w
   dart-a = rw (pqp a o, prq a w o awo!, qrp b w o bwo!, qpr a b w abw!, qrp a w o awo!, prq a b o abo!, prq b w o bwo!, prq a b w abw!, qrp a b o abo!, rpq a b w abw!)
       (by-check (λ abw abo awo bwo. xor (and (not awo) (and bwo (not abw))) (xor (cond (not awo) false (and awo false))
-            (cond (not awo) (and (not abo) (and (not bwo) (not abw))) (and bwo (and abo abw)))))
-         (λ abw abo awo bwo. and (not awo) (not abw)) refl)
+      (cond (not awo) (and (not abo) (and (not bwo) (not abw))) (and bwo (and abo abw)))))
+      (λ abw abo awo bwo. and (not awo) (not abw)) refl)
 
   -- darts at b
   pub dart-b : De o a b b w ≡ Sb o a b w
   dart-b = rw (pqp b o, prq a b o abo!, prq a w o awo!, qrp b w o bwo!, qpr a b w abw!, prq b w o bwo!, qrp a b o abo!, qrp a b w abw!, qrp a w o awo!, rqp a b w abw!)
       (by-check (λ abw abo awo bwo. xor (and (not abo) false) (xor (and (not awo) (and bwo (not abw)))
-            (xor (cond (not bwo) (and abo (and (not awo) abw)) (and awo (and (not abo) (not abw)))) (cond (not bwo) false (and bwo false)))))
-         (λ abw abo awo bwo. and bwo (not abw)) refl)
+      (xor (cond (not bwo) (and abo (and (not awo) abw)) (and awo (and (not abo) (not abw)))) (cond (not bwo) false (and bwo false)))))
+      (λ abw abo awo bwo. and bwo (not abw)) refl)
 
   -- corners at a: the first side is the link; the last side is the link
   pub corner-a-first : xor (Sa o a b b) (Sa o a b w) ≡ not (inside a b o w)

@@ -74,51 +74,51 @@ every10 f = every (λ a. every (λ b. every (λ c. every (λ d. every (λ e. eve
 pub at10 : (f : Ten) → every10 f ≡ true → (a b c d e g h i j k : Bool) → f a b c d e g h i j k ≡ true
 at10 f t a b c d e g h i j k =
     at (λ k. f a b c d e g h i j k)
-      (at (λ j. every (λ k. f a b c d e g h i j k))
-      (at (λ i. every (λ j. every (λ k. f a b c d e g h i j k)))
-      (at (λ h. every (λ i. every (λ j. every (λ k. f a b c d e g h i j k))))
-      (at (λ g. every (λ h. every (λ i. every (λ j. every (λ k. f a b c d e g h i j k)))))
-      (at (λ e. every (λ g. every (λ h. every (λ i. every (λ j. every (λ k. f a b c d e g h i j k))))))
-      (at (λ d. every (λ e. every (λ g. every (λ h. every (λ i. every (λ j. every (λ k. f a b c d e g h i j k)))))))
-      (at (λ c. every (λ d. every (λ e. every (λ g. every (λ h. every (λ i. every (λ j. every (λ k. f a b c d e g h i j k))))))))
-      (at (λ b. every (λ c. every (λ d. every (λ e. every (λ g. every (λ h. every (λ i. every (λ j. every (λ k. f a b c d e g h i j k)))))))))
-      (at (λ a. every (λ b. every (λ c. every (λ d. every (λ e. every (λ g. every (λ h. every (λ i. every (λ j. every (λ k. f a b c d e g h i j k))))))))))
-      t a) b) c) d) e) g) h) i) j) k
+    (at (λ j. every (λ k. f a b c d e g h i j k))
+    (at (λ i. every (λ j. every (λ k. f a b c d e g h i j k)))
+    (at (λ h. every (λ i. every (λ j. every (λ k. f a b c d e g h i j k))))
+    (at (λ g. every (λ h. every (λ i. every (λ j. every (λ k. f a b c d e g h i j k)))))
+    (at (λ e. every (λ g. every (λ h. every (λ i. every (λ j. every (λ k. f a b c d e g h i j k))))))
+    (at (λ d. every (λ e. every (λ g. every (λ h. every (λ i. every (λ j. every (λ k. f a b c d e g h i j k)))))))
+    (at (λ c. every (λ d. every (λ e. every (λ g. every (λ h. every (λ i. every (λ j. every (λ k. f a b c d e g h i j k))))))))
+    (at (λ b. every (λ c. every (λ d. every (λ e. every (λ g. every (λ h. every (λ i. every (λ j. every (λ k. f a b c d e g h i j k)))))))))
+    (at (λ a. every (λ b. every (λ c. every (λ d. every (λ e. every (λ g. every (λ h. every (λ i. every (λ j. every (λ k. f a b c d e g h i j k))))))))))
+    t a) b) c) d) e) g) h) i) j) k
 
 -- ---- the rules: ayu ayv ayo auv auo avo yuv yuo yvo uvo
 unfoldable pub rules : Ten
 rules ayu ayv ayo auv auo avo yuv yuo yvo uvo =
-  and (mixed3 (eqB ayu avo) (not (eqB ayv auo)) (eqB ayo auv))
-  (and (mixed3 (eqB (not ayu) yvo) (not (eqB (not ayv) yuo)) (eqB (not ayo) yuv))
-  (and (mixed3 (eqB ayu uvo) (not (eqB (not auv) (not yuo))) (eqB (not auo) (not yuv)))
-  (and (mixed3 (eqB ayv (not uvo)) (not (eqB auv (not yvo))) (eqB (not avo) yuv))
-  (and (mixed3 (eqB ayo uvo) (not (eqB auo yvo)) (eqB avo yuo))
-  (and (mixed4 (not ayu) ayv yuv (not auv))
-  (and (mixed3 ayo yuo (not auo))
-  (and (mixed3 ayo yvo (not avo))
-  (and (mixed3 auo uvo (not avo))
-       (mixed3 yuo uvo (not yvo))))))))))
+    and (mixed3 (eqB ayu avo) (not (eqB ayv auo)) (eqB ayo auv))
+    (and (mixed3 (eqB (not ayu) yvo) (not (eqB (not ayv) yuo)) (eqB (not ayo) yuv))
+    (and (mixed3 (eqB ayu uvo) (not (eqB (not auv) (not yuo))) (eqB (not auo) (not yuv)))
+    (and (mixed3 (eqB ayv (not uvo)) (not (eqB auv (not yvo))) (eqB (not avo) yuv))
+    (and (mixed3 (eqB ayo uvo) (not (eqB auo yvo)) (eqB avo yuo))
+    (and (mixed4 (not ayu) ayv yuv (not auv))
+    (and (mixed3 ayo yuo (not auo))
+    (and (mixed3 ayo yvo (not avo))
+    (and (mixed3 auo uvo (not avo))
+    (mixed3 yuo uvo (not yvo))))))))))
 
 -- the strip between a and y: what a dart u v adds is whether it crosses a y
 unfoldable pub strip-claim : Ten
 strip-claim ayu ayv ayo auv auo avo yuv yuo yvo uvo =
-  or ayo (same
+    or ayo (same
     (xor (and (not auo) (and yuo (not ayu))) (xor (and (not avo) (and yvo (not ayv)))
-      (xor (cond (not uvo) (and auo (and (not avo) auv)) (and avo (and (not auo) (not auv))))
-           (cond (not uvo) (and yuo (and (not yvo) yuv)) (and yvo (and (not yuo) (not yuv)))))))
+    (xor (cond (not uvo) (and auo (and (not avo) auv)) (and avo (and (not auo) (not auv))))
+    (cond (not uvo) (and yuo (and (not yvo) yuv)) (and yvo (and (not yuo) (not yuv)))))))
     (and (xor ayu ayv) (xor auv yuv)))
 
 -- corners at a, the link's other end y above a and not inside the corner u a v
 unfoldable pub below-claim : Ten
 below-claim ayu ayv ayo auv auo avo yuv yuo yvo uvo =
-  or ayo (or (most ayu (not ayv) auv) (same
+    or ayo (or (most ayu (not ayv) auv) (same
     (xor (and (not auo) (not ayu)) (and (not avo) (not ayv)))
     (most (not auo) avo auv)))
 
 -- corners at a, the link's other end y below a and not inside the corner u a v
 unfoldable pub above-claim : Ten
 above-claim ayu ayv ayo auv auo avo yuv yuo yvo uvo =
-  or (not ayo) (or (most ayu (not ayv) auv) (same
+    or (not ayo) (or (most ayu (not ayv) auv) (same
     (xor (and auo ayu) (and avo ayv))
     (most (not auo) avo auv)))
 

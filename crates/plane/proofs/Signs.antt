@@ -162,11 +162,14 @@ levels a b c o {b1 = b1} {b2 = b2} {b3 = b3} ha hb hc e h1 h2 h3 = fall b1 b2 b3
   where
     none : (z w : ℤ) → z ≡ pos 0 → z *ℤ w ≡ pos 0
     none z w e = ap (λ t. t *ℤ w) e ∙ zero-*ℤ w
+
     weigh : (z : ℤ) → z ≡ pos 0 → (b : Bool) → Wk b (negℤ z)
     weigh z e true = record { is = omega (arith, ints) }
     weigh z e false = record { is = omega (arith, ints) }
+
     zeroth : Wk b1 (negℤ (o .h *ℤ det a b c))
     zeroth = weigh (o .h *ℤ det a b c) (none (o .h) (det a b c) e) b1
+
     fall : (x y z : Bool) → mixed4 x x y (not z) ≡ true → mixed3 x y (not z) ≡ true
     fall true y z k = k
     fall false y z k = k

@@ -8,7 +8,6 @@ use Rattle.plane.specs.declared.Point.{Point}
 use Rattle.plane.specs.Plane.{Vector, way, cross, turn, inner, positive}
 
 infixl 32 _⊕_
-
 -- exclusive or
 abbrev pub _⊕_ : Bool → Bool → Bool
 true ⊕ b = not b

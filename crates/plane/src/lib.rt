@@ -65,5 +65,4 @@ pub fn squared_distance(a: Point, b: Point) -> i64
 /// The laws of the plane that the proofs about links and faces rest on.
 pub fn plane_laws()
     ensures { λ _. ⌜ PlaneLaws ⌝ }
-{
-}
+{}

@@ -27,8 +27,8 @@ returns-in-Break-packet g c =
     let p = err-from-errBy (c .from-residual .result) (c .from-residual .ensures .1) in
     record {
       answer = ap run-told (p .1)
-        ∙ run-refused (g .P·Planariser .blocking (c .args .planariser .now)) (g .R·Reading .meaning (c .args .host .now)) (c .args .source) (c .args .target) (c .args .budget)
-            (p .0) (ap (λ (w : Refusal). open-told (Err w)) (p .2) ∙ c .in-Break-packet .ensures tt);
+          ∙ run-refused (g .P·Planariser .blocking (c .args .planariser .now)) (g .R·Reading .meaning (c .args .host .now)) (c .args .source) (c .args .target) (c .args .budget)
+          (p .0) (ap (λ (w : Refusal). open-told (Err w)) (p .2) ∙ c .in-Break-packet .ensures tt);
       rightly = λ d e. absurd (ok-not-err d (p .0) (sym e ∙ p .1));
       always = every;
     }

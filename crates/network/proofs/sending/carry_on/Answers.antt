@@ -10,7 +10,8 @@ returns-in-rest g c =
 
 pub loop-packet-again : need.loop-packet-again
 loop-packet-again g c =
-    let a = c .append .ensures in
-    (one-more _ _ _ _ _ _ _ _ _ _ (c .loop-packet .inv .0) (c .in-Some .link) _ _ _ (c .in-Some .is) (c .if-hops-budget .left)
-      (ap isErr (sym (a .answer)) ∙ sym (c .if-is-err .ensures tt .value)) (a .len) (a .memory) (a .holds) (c .send .ensures),
-    a .lent ∙ c .loop-packet .inv .1)
+    let a = c .append .ensures in (
+      one-more _ _ _ _ _ _ _ _ _ _ (c .loop-packet .inv .0) (c .in-Some .link) _ _ _ (c .in-Some .is) (c .if-hops-budget .left)
+          (ap isErr (sym (a .answer)) ∙ sym (c .if-is-err .ensures tt .value)) (a .len) (a .memory) (a .holds) (c .send .ensures),
+      a .lent ∙ c .loop-packet .inv .1,
+    )

@@ -17,9 +17,9 @@ returns g c =
     let carried = c .carry-on-carried in
     record {
       call = subst
-        (λ (ls : List (Option Record)). CarryDoes b n (c .args .line) (c .args .budget) (list .memory .now) (list .len) (net m ls) (Ok (carried .result)) (carried .last .list .memory .now) (carried .last .list .len))
-        (sym (c .put .ensures))
-        (carry-made b n (c .args .line) (c .args .budget) (list .memory .now) (list .len) (c .in-Continue-packet .packet) (c .in-Continue-packet .ensures tt)
+          (λ (ls : List (Option Record)). CarryDoes b n (c .args .line) (c .args .budget) (list .memory .now) (list .len) (net m ls) (Ok (carried .result)) (carried .last .list .memory .now) (carried .last .list .len))
+          (sym (c .put .ensures))
+          (carry-made b n (c .args .line) (c .args .budget) (list .memory .now) (list .len) (c .in-Continue-packet .packet) (c .in-Continue-packet .ensures tt)
           (ap is-some (c .in-Some .is)) (carried .last .packet) (carried .result) _ _ (carried .ensures .packet) (carried .ensures .answer) (carried .ensures .list));
       lent = carried .ensures .lent;
       host = refl;
