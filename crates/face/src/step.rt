@@ -1,9 +1,7 @@
 ghost use mathlib.Core.Path.{_≡_};
-ghost use mathlib.Core.Bool.{Bool};
-ghost use Prim.Native.Nat.{ℕ};
 ghost use Rattle.floor.specs.declared.node.Node.{Node};
-ghost use Rattle.face.specs.Packet.{Verdict, GoesOn, Ends, more, under, verdict, turning, walked, closed, reopened, opens, on-with, is-link};
-ghost use Rattle.face.specs.Arrival.{led, lengthened, is-done, upon};
+ghost use Rattle.face.specs.Packet.{Verdict, GoesOn, Ends, under, verdict, turning, walked, closed, reopened, opens, on-with};
+ghost use Rattle.face.specs.Arrival.{led, is-done, upon};
 use crate::course::one_more;
 use crate::crossing::crossing;
 use crate::record::Best;

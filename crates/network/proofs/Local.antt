@@ -23,7 +23,7 @@ use Rattle.face.specs.declared.record.Record.{Record}
 use Rattle.face.specs.Packet.{verdict, under, send, sent-along, received}
 use Rattle.network.specs.declared.types.Refusal.the-variants.{NoLine}
 use Rattle.network.specs.Network.{Net, made, On, Hop, Answer, Denied, Opened, Hopped, Carried, Collected, Switched, refused, on-line, hopped-on, call-on, called, answer}
-use Rattle.network.specs.Law.{Packet, whole-past, network-now, host-now, Alike, Local}
+use Rattle.network.specs.Law.{Journey, whole-past, network-now, host-now, Alike, Local}
 use Rattle.network.proofs.Options.{none-some, unsome, get-set}
 use Rattle.network.proofs.Marks.{mapped-after}
 use Rattle.network.proofs.Calls.{host-told}
@@ -150,7 +150,7 @@ send-is b m r k v h e = ap (sent-along b m r) h ∙ ap (λ (w : ℕ). received b
 
 -- ---- the clause of the law
 
-pub local : (b : Blocks) (m : Meaning) → Mapped m → (P : Packet b m) → Local b m P
+pub local : (b : Blocks) (m : Meaning) → Mapped m → (P : Journey b m) → Local b m P
 local b m M P b′ m′ Q u v u′ v′ alike hP hQ same point near =
     let p = hop-shows b (network-now P) (P .line) u v hP in
     let q = hop-shows b′ (network-now Q) (Q .line) u′ v′ hQ in

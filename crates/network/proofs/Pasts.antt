@@ -28,7 +28,7 @@ use Rattle.network.specs.declared.types.Stopper.{Stopper}
 use Rattle.network.specs.declared.types.Stopper.the-variants.{Ended, Budget, Full}
 use Rattle.network.specs.declared.types.Refusal.the-variants.{PacketUnderWay}
 use Rattle.network.specs.Network.{Net, made, Call, On, Open, Hop, Carry, Collect, Answer, Denied, Opened, Hopped, Carried, Collected, Switched, refused, on-line, put, is-some, trail, stopper, opened-on, hopped-on, call-on, then, answer}
-use Rattle.network.specs.Law.{Event, Past, net-after, send-of, lone-hop, first-to-stop, Packet, network-now, host-at-opening, most-sends, sends, HasEnded, NextSend, Walk, Bounded, Right, ByTheRules, CarriesByHops, EveryPacketIsDelivered}
+use Rattle.network.specs.Law.{Event, Past, net-after, send-of, lone-hop, first-to-stop, Journey, network-now, host-at-opening, most-sends, sends, HasEnded, NextSend, Walk, Bounded, Right, ByTheRules, CarriesByHops, EveryPacketIsDelivered}
 use Rattle.network.proofs.Options.{none-some, unsome, true-false, is-none}
 use Rattle.delivery.proofs.Running.{in-service}
 use Rattle.network.proofs.Marks.{mapped-after}
@@ -230,7 +230,7 @@ module _ (b : Blocks) (l : ℕ) (low : ltb 15 l ≡ false) (n : Net) (q : Record
 
 -- ---- the clauses of the law, of a packet on its line
 
-module _ (b : Blocks) (m : Meaning) (P : Packet b m) (low : ltb 15 (P .line) ≡ false) (r : Record) (opening-is : opening b (host-at-opening P) (P .source) (P .target) ≡ Some r)
+module _ (b : Blocks) (m : Meaning) (P : Journey b m) (low : ltb 15 (P .line) ≡ false) (r : Record) (opening-is : opening b (host-at-opening P) (P .source) (P .target) ≡ Some r)
     (stands : (k : ℕ) → Made b (host-at-opening P) k r → Standing b (host-at-opening P) (P .source) (P .target) k (after-sends b (host-at-opening P) k r))
     (A : Alive b (host-at-opening P) (P .line) low (P .source) (P .target) r stands (network-now P) (sends P)) where
   -- its record now
@@ -315,7 +315,7 @@ module _ (b : Blocks) (m : Meaning) (P : Packet b m) (low : ltb 15 (P .line) ≡
 
 -- ---- a packet of a past
 
-module _ (every-run : EveryRun) (b : Blocks) (m : Meaning) (M : Mapped m) (law : Lawful b) (P : Packet b m) where
+module _ (every-run : EveryRun) (b : Blocks) (m : Meaning) (M : Mapped m) (law : Lawful b) (P : Journey b m) where
   abbrev n₀ : Net
   n₀ = net-after b (made m) (P .earlier)
 

@@ -94,9 +94,9 @@ host-after m (e ∷ es) = host-after (cond (is-switching (e .1)) (marked-by m (e
 
 -- ---- a packet
 
--- A packet at a moment of its life, in a network made over m with the planariser b: what was told before its opening, its opening, which
+-- A packet's journey up to a moment, in a network made over m with the planariser b: what was told before its opening, its opening, which
 -- was accepted, and what was told since, no collection on its line among it.
-pub record Packet (b : Blocks) (m : Meaning) : Type 0 where
+pub record Journey (b : Blocks) (m : Meaning) : Type 0 where
   pub earlier : List Event
   pub line : ℕ
   pub source : ℕ
@@ -105,7 +105,7 @@ pub record Packet (b : Blocks) (m : Meaning) : Type 0 where
   pub past : Past b (made m) (earlier ++ (On line (Open source target), Opened) ∷ since)
   pub uncollected : T (not (some-is is-collection (told-on line since)))
 
-module _ {b : Blocks} {m : Meaning} (P : Packet b m) where
+module _ {b : Blocks} {m : Meaning} (P : Journey b m) where
   abbrev pub whole-past : List Event
   whole-past = P .earlier ++ (On (P .line) (Open (P .source) (P .target)), Opened) ∷ P .since
 
@@ -167,7 +167,7 @@ first-to-stop needed budget room = cond (leb needed (min budget room)) Ended (co
 
 -- ---- the law, of a packet of a network made over m with the planariser b
 
-module _ (b : Blocks) (m : Meaning) (P : Packet b m) where
+module _ (b : Blocks) (m : Meaning) (P : Journey b m) where
   -- (i) it ends in time
   pub record Bounded : Type 0 where
     pub at-most : length (sends P) ≤ most-sends P
@@ -204,11 +204,11 @@ module _ (b : Blocks) (m : Meaning) (P : Packet b m) where
     pub same-after : (budget room : ℕ) (hops : List HopRecord) (stop : Stopper) → CarriesAs P budget room hops stop
         → then b (network-now P) (On (P .line) (Carry budget room)) ≡ net-after b (network-now P) (map (lone-hop (P .line)) hops)
 
-  -- (iii) and each send is local. Q is a packet of any second network, with any host and any past. Planarisers that answer alike, equal
+  -- (iii) and each send is local. Q is the journey of any packet of any second network, with any host and any past. Planarisers that answer alike, equal
   -- records, and receivers with equal points and equal neighbours, before a send of each: equal records after it
   abbrev pub Local : Type 0
   Local =
-      (b′ : Blocks) (m′ : Meaning) (Q : Packet b′ m′) (u v u′ v′ : ℕ) →
+      (b′ : Blocks) (m′ : Meaning) (Q : Journey b′ m′) (u v u′ v′ : ℕ) →
       Alike b b′ →
       NextSend P u v → NextSend Q u′ v′ →
       record-of P ≡ record-of Q →
@@ -225,4 +225,4 @@ module _ (b : Blocks) (m : Meaning) (P : Packet b m) where
 
 -- of every network over every map, with every lawful planariser: every packet, at every moment of every past
 abbrev pub EveryPacketIsDelivered : Type 0
-EveryPacketIsDelivered = (m : Meaning) (b : Blocks) → Mapped m → Lawful b → (P : Packet b m) → Delivers b m P
+EveryPacketIsDelivered = (m : Meaning) (b : Blocks) → Mapped m → Lawful b → (P : Journey b m) → Delivers b m P

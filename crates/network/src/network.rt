@@ -1,7 +1,7 @@
 ghost use mathlib.Core.Path.{_≡_};
 ghost use denote.Ref.{name};
 ghost use Rattle.network.specs.Calls.{net, told, Does, CarryDoes, may-switch};
-ghost use Rattle.network.specs.Law.{Packet, Delivers, EveryPacketIsDelivered};
+ghost use Rattle.network.specs.Law.{Journey, Delivers, EveryPacketIsDelivered};
 ghost use Rattle.network.specs.Network.{made, On, Withdraw, Return, Open, Hop, Collect, Opened, Hopped, Collected, Switched};
 use crate::lines::Lines;
 use crate::list::LentList;
@@ -30,7 +30,7 @@ impl<H: Switching, P: Planariser> Network<H, P> {
         ensures empty { λ r. ⌜ net (H·Reading .meaning (r .host)) (r .lines .records) ≡ made (H·Reading .meaning host) ⌝ }
         ensures host { λ r. ⌜ r .host ≡ host ⌝ }
         ensures planariser { λ r. ⌜ r .planariser ≡ planariser ⌝ }
-        ensures delivers { λ _. ⌜ ((p : Packet (P·Planariser .blocking planariser) (H·Reading .meaning host)) → Delivers (P·Planariser .blocking planariser) (H·Reading .meaning host) p) ⌝ }
+        ensures delivers { λ _. ⌜ ((p : Journey (P·Planariser .blocking planariser) (H·Reading .meaning host)) → Delivers (P·Planariser .blocking planariser) (H·Reading .meaning host) p) ⌝ }
         ensures always { λ _. ⌜ EveryPacketIsDelivered ⌝ }
     {
         Network {

