@@ -543,13 +543,19 @@ def account_of_links():
 
 # floor, withdrawn nodes, source and target of the packets that the account sends
 SENT = [("A", [], 0, 5), ("A", [2], 0, 5), ("B", [], 0, 3), ("C", [], 0, 3), ("D", [], 0, 8), ("E", [], 0, 10)]
-SENT += [("B", [], 2, 2), ("C", [], 3, 0)]
+SENT += [("B", [], 2, 2), ("C", [], 3, 0), ("B", [], 0, 4), ("B", [3], 0, 3)]
 
 
 def tell_run(host, blocks, s, t):
-    packet, receivers = run(host, blocks, s, t)
-    shown = "".join(f" {n}" for n in receivers)
-    print(f"{s} to {t}:{shown}, {ENDS[packet.end]} after {packet.total}")
+    if s >= host.count() or t >= host.count():
+        print(f"{s} to {t}: refused with 43")
+    elif not host.serving[s] or not host.serving[t]:
+        print(f"{s} to {t}: refused with 44")
+    else:
+        packet, receivers = run(host, blocks, s, t)
+        shown = "".join(f" {n}" for n in receivers)
+        most = 3 * len(kept_links(host, blocks))
+        print(f"{s} to {t}:{shown}, {ENDS[packet.end]} after {packet.total} of at most {most}")
 
 
 def account_of_packets():

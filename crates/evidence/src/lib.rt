@@ -12,7 +12,6 @@ mod tests {
     use crate::table::Way;
     use face::packet::Packet;
     use face::packet::Unsent;
-    use face::record::End;
     use face::record::Phase;
     use face::record::Record;
     use floor::map::Map;
@@ -49,15 +48,6 @@ mod tests {
 
     const TAIL_REACH: u16 = 8;
 
-    // The number of an end.
-    fn end_number(end: End) -> u8 {
-        match end {
-            End::UnderWay => 0,
-            End::Delivered => 1,
-            End::Unreachable => 2,
-        }
-    }
-
     // The map of some points, all of which can be placed.
     fn map_of(heap: Global, points: &[(u16, u16)]) -> Result<Map, Fail> {
         let mut map = Map::new(heap)?;
@@ -92,7 +82,7 @@ mod tests {
         let Ok((ended, total)) = network.collect(0) else {
             return check(false);
         };
-        check_eq(end_number(ended), end)?;
+        check_eq(ended.number(), end)?;
         check_eq(usize::from(total), letters.len())
     }
 
@@ -198,7 +188,7 @@ mod tests {
         check_eq(refusal(gone, record), refused)?;
         let after = across(whole, gone, record);
         check_eq(after.holder, holder)?;
-        check_eq(end_number(after.end), end)?;
+        check_eq(after.end.number(), end)?;
         check_eq(after.total, u16::from(sends) + 1)
     }
 

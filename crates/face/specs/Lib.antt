@@ -3,3 +3,4 @@ pub mod Packet
 pub mod Worked
 pub mod Arrival
 pub mod Hand
+pub mod Ends

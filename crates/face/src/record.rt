@@ -1,3 +1,5 @@
+ghost use mathlib.Core.Path.{_≡_};
+ghost use Rattle.face.specs.Ends.{end-number};
 use floor::node::Node;
 use order::Place;
 
@@ -31,6 +33,19 @@ pub enum End {
     UnderWay,
     Delivered,
     Unreachable,
+}
+
+impl End {
+    /// The number of the end.
+    pub fn number(self) -> u8
+        ensures { λ r. ⌜ r ≡ end-number self ⌝ }
+    {
+        match self {
+            End::UnderWay => 0,
+            End::Delivered => 1,
+            End::Unreachable => 2,
+        }
+    }
 }
 
 /// A packet's way from face to face.

@@ -3,7 +3,6 @@ use crate::floors::Floor;
 use crate::floors::TAIL;
 use crate::packets::sent;
 use face::packet::Packet;
-use face::record::End;
 use face::record::Record;
 use floor::map::Map;
 use floor::planariser::Planariser;
@@ -95,15 +94,6 @@ fn hand_over(rt: &impl Print, job: &mut Job, frame: Frame) -> io::Result<()> {
     Ok(())
 }
 
-// The number of an end.
-fn end_number(end: End) -> u8 {
-    match end {
-        End::UnderWay => 0,
-        End::Delivered => 1,
-        End::Unreachable => 2,
-    }
-}
-
 // Sends the packet of a record to its end, and tells each hop and the end by frames.
 fn tell_hops<'a, R: Reading, P: Planariser>(
     rt: &impl Print,
@@ -128,7 +118,7 @@ fn tell_hops<'a, R: Reading, P: Planariser>(
     let end = Frame::End {
         source: record.source.number,
         target: record.target.number,
-        end: end_number(record.end),
+        end: record.end.number(),
         total: record.total,
     };
     through_line(rt, end)?;

@@ -16,6 +16,7 @@ fn theorems() {
     order::direction::arc_laws();
     host::sides::switching_laws();
     kept::laws::kept_laws();
+    face::worked::worked_floors();
 }
 
 fn main(rt: LibcRuntime) -> io::Result<()> {

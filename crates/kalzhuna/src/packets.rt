@@ -38,7 +38,7 @@ struct Errand {
 }
 
 // The packets of the account.
-const ERRANDS: [Errand; 8] = [
+const ERRANDS: [Errand; 10] = [
     Errand {
         floor: HALF_RING,
         without: None,
@@ -86,6 +86,18 @@ const ERRANDS: [Errand; 8] = [
         without: None,
         source: 3,
         target: 0,
+    },
+    Errand {
+        floor: TAIL,
+        without: None,
+        source: 0,
+        target: 4,
+    },
+    Errand {
+        floor: TAIL,
+        without: Some(3),
+        source: 0,
+        target: 3,
     },
 ];
 
@@ -149,7 +161,7 @@ fn tell_end<R: Reading, P: Planariser>(
     match deliver(host, planariser, errand.source, errand.target, budget) {
         Ok(record) => {
             let (end, total) = (in_words(record.end), record.total);
-            println!(rt, ", {end} after {total}")
+            println!(rt, ", {end} after {total} of at most {budget}")
         }
         Err(refusal) => tell_refusal(rt, refusal),
     }
