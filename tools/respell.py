@@ -53,8 +53,17 @@ def respelt(name):
     return name.replace("-", "_")
 
 
+def taken(text):
+    """The names that the text takes from the library."""
+    own = "|".join(crate.name for crate in (TOP / "crates").iterdir())
+    lists = re.findall(rf"^use (?!Rattle\.(?:{own})\.)[^{{\n]*\{{([^}}]*)\}}", text, re.MULTILINE)
+    return {name for names in lists for name in re.findall(NAME, names)}
+
+
 def turn(text, names):
     """The text, its names turned, and its comments and strings left."""
+    names = names - taken(text)
+
     def each(line):
         code, mark, said = line.partition("--")
         return TOKEN.sub(lambda m: respelt(m.group()) if m.group() in names else m.group(), code) + mark + said

@@ -1,4 +1,7 @@
 //! The library's calls behind functions that other languages can link: whole floors of packets, for measuring.
+
+#![tactic(auto)]
+
 use face::record::{End, Phase};
 use floor::map::Map;
 use floor::planariser::Planariser;

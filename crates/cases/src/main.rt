@@ -1,4 +1,7 @@
 //! Runs the cases that standard input holds, and tells what comes of each: a second implementation tells the same.
+
+#![tactic(auto)]
+
 use anyhow::anyhow;
 use std::io;
 

@@ -1,4 +1,7 @@
 //! Every packet's run over an unchanged host ends in time, and ends rightly.
+
+#![tactic(auto)]
+
 ghost use Rattle.std.specs.Prelude.{◌≡◌, Ok};
 ghost use Rattle.face.specs.declared.record.Record.{Record};
 ghost use Rattle.delivery.specs.Law.{EveryRun};

@@ -1,4 +1,7 @@
 //! The library beside a second implementation: random floors, and packets that find a node gone.
+
+#![tactic(auto)]
+
 #[cfg(test)]
 mod table;
 

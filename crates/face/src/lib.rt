@@ -1,4 +1,7 @@
 //! A packet's record, and the one local step that a receiver makes of it.
+
+#![tactic(auto)]
+
 mod course;
 mod crossing;
 pub mod packet;

@@ -1,4 +1,7 @@
 //! Placing at its edges, and links that are blocked or not, worked by hand.
+
+#![tactic(auto)]
+
 #[cfg(test)]
 mod tests {
     use floor::map::Map;

@@ -2,7 +2,7 @@
 use Rattle.std.proofs.Common.{◌≡◌, ℕ, ◌-◌, ◌%◌, ◌<◌, ◌≤◌, cond, eqb, ltb, List, [], ◌∷◌, ◌++◌, length, take, drop, Ok, Err, Result, sym, refl, ap, ◌∙◌, subst, arith}
 use Rattle.std.proofs.ByRecursion.{All-push}
 use Rattle.std.proofs.lemmas.List.{take_at, get_or_push, length_push}
-use Rattle.std.proofs.lemmas.Bool.{cond-true, cond_false, le-ltb, eq-eqb}
+use Rattle.std.proofs.lemmas.Bool.{cond-true, cond-false, le-ltb, eq-eqb}
 use Rattle.std.proofs.lemmas.Bool.Decides.{nat_tests}
 use Rattle.frame.specs.declared.fault.LineFault.{LineFault}
 use Rattle.frame.specs.declared.fault.FrameFault.{FrameFault}
@@ -28,7 +28,7 @@ checked_row row h =
     let bs = checked row in
     let long = le-ltb (length bs) 2 (omega (arith, length_push row (check row))) in
     let right = eq-eqb (check (take (length bs - 1) bs)) (one bs (length bs - 1)) (ap check (front_of row (check row)) ∙ sym (last_of row (check row))) in
-    cond_false (ltb (length bs) 2) _ _ long ∙ cond-true (eqb (check (take (length bs - 1) bs)) (one bs (length bs - 1))) _ _ right
+    cond-false (ltb (length bs) 2) _ _ long ∙ cond-true (eqb (check (take (length bs - 1) bs)) (one bs (length bs - 1))) _ _ right
 
 -- the digits of bytes are a line of them
 spelled_line : (bs : List ℕ) → Bytes bs → length bs ≤ 40 → bytes_in (spelled bs) ≡ Ok bs

@@ -1,4 +1,7 @@
 //! Frames as lines of hexadecimal digits: every line written reads back, and every line accepted is one that would be written.
+
+#![tactic(auto)]
+
 ghost use Rattle.std.specs.Prelude.{◌≡◌};
 ghost use Rattle.frame.specs.Lines.{text, reads, told, held, ReadsBack, OnlyText};
 

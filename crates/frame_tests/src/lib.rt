@@ -1,4 +1,7 @@
 //! Worked lines, each refusal at its edge, and buffers of every length near a line's.
+
+#![tactic(auto)]
+
 #[cfg(test)]
 mod tests {
     use frame::*;

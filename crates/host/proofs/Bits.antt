@@ -1,5 +1,5 @@
 -- Rows of bits: what writing a bit alters, and which comes next.
-use Rattle.std.proofs.Common.{◌≡◌, ℕ, zero, suc, ◌+◌, ◌-◌, ◌*◌, ◌/◌, ◌%◌, ◌^◌, ◌<◌, ◌≤◌, Bool, true, false, not, eqb, ◌≢◌, List, length, get_or, set, sym, refl, ap, ◌∙◌, ⊎_elim, one_mul, pow-suc, div-one, arith, get_or-set_other, get_or-set_same, pow_mono}
+use Rattle.std.proofs.Common.{◌≡◌, ℕ, zero, suc, ◌+◌, ◌-◌, ◌*◌, ◌/◌, ◌%◌, ◌^◌, ◌<◌, ◌≤◌, Bool, true, false, not, eqb, ◌≢◌, List, length, get_or, set, sym, refl, ap, ◌∙◌, ⊎_elim, one-mul, pow-suc, div-one, arith, get_or-set_other, get_or-set_same, pow_mono}
 use mathlib.Core.Bool.{beq}
 use native.Mathlib.Nat.{div-eq_of_lt, zero-div}
 use lib.Bits.{bit_xor, shifted_even, xor_zero_r}
@@ -17,13 +17,13 @@ digit_xor a b j = ap (λ n. n % 2) (xor_shr a b j) ∙ xor_mod (a / 2 ^ j) (b / 
 
 -- one bit alone
 digit_one : (j : ℕ) → digit (2 ^ j) j ≡ 1
-digit_one j = ap (λ n. n % 2) (ap (λ n. n / 2 ^ j) (sym (one_mul (2 ^ j))) ∙ shl-shr 1 j)
+digit_one j = ap (λ n. n % 2) (ap (λ n. n / 2 ^ j) (sym (one-mul (2 ^ j))) ∙ shl-shr 1 j)
 
 above : (j d : ℕ) → digit (2 ^ (suc d + j)) j ≡ 0
 above j d =
     ap (λ n. n / 2 ^ j % 2) (pow-add 2 (suc d) j)
     ∙ ap (λ n. n % 2) (shl-shr (2 ^ suc d) j)
-    ∙ ap (λ n. n % 2) (sym (one_mul (2 ^ suc d)))
+    ∙ ap (λ n. n % 2) (sym (one-mul (2 ^ suc d)))
     ∙ shifted_even 1 d
 
 digit_other : (j k : ℕ) → k ≢ j → digit (2 ^ j) k ≡ 0

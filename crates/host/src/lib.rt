@@ -1,4 +1,7 @@
 //! Hosts: who hears whom.
+
+#![tactic(auto)]
+
 pub mod making;
 mod rows;
 pub mod scan;

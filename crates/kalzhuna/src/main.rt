@@ -1,4 +1,7 @@
 //! An account of floors: who hears whom, which links are kept, and how packets go round.
+
+#![tactic(auto)]
+
 use std::io;
 
 mod floors;

@@ -1,4 +1,7 @@
 //! Kept links, over any host and any planariser.
+
+#![tactic(auto)]
+
 pub mod around;
 pub mod bearing;
 pub mod laws;

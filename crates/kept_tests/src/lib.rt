@@ -1,4 +1,7 @@
 //! Kept links of small floors, worked by hand.
+
+#![tactic(auto)]
+
 #[cfg(test)]
 mod tests {
     use floor::map::Map;

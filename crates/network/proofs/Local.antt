@@ -1,6 +1,6 @@
 -- A send is local: what the receiver makes of the packet rests on its own point and neighbours alone
 use Rattle.std.proofs.Common.{◌≡◌, ℕ, suc, ◌+◌, Bool, true, false, cond, not, ◌&&◌, ◌||◌, eqb, ltb, ◌≢◌, List, [], ◌∷◌, Some, None, Option, sym, refl, ap, ◌∙◌, zero-add, arith}
-use borrow.Author.Tests.{eqb-false, not_true}
+use borrow.Author.Tests.{eqb-false, not-true}
 use Rattle.std.proofs.lemmas.Bool.{cond_both, and_parts}
 use Rattle.plane.specs.declared.Point.{Point}
 use Rattle.floor.specs.declared.node.Node.{Node}
@@ -44,7 +44,7 @@ and_alike false y z h = refl
 -- ---- the neighbours of node i are other nodes, where the host has them
 
 differ_not : (i j : ℕ) → differ i j ≡ true → i ≢ j
-differ_not i j h = eqb-false i j (not_true (eqb i j) h)
+differ_not i j h = eqb-false i j (not-true (eqb i j) h)
 
 module _ (m : Meaning) (i : ℕ) where
   abbrev Other : Node → Type 0

@@ -1,4 +1,7 @@
 //! Tests of lists in lent memory, packets in the hand, runs and networks, on floors worked by hand.
+
+#![tactic(auto)]
+
 #[cfg(test)]
 mod carrying;
 #[cfg(test)]

@@ -1,4 +1,7 @@
 //! What comes before what, and the foremost of a sequence of offers.
+
+#![tactic(auto)]
+
 ghost use Rattle.std.specs.Prelude.{◌≡◌, ◌<◌};
 ghost use Rattle.order.specs.Places.{nearer};
 ghost use Rattle.order.specs.Nearest;

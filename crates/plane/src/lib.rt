@@ -1,4 +1,7 @@
 //! The integer plane: points in whole centimetres, turns, inner products and squared distances.
+
+#![tactic(auto)]
+
 ghost use Rattle.std.specs.Prelude.{true, ◌≡◌, ◌≤◌, pos, nat_abs, ◌+ℤ◌, ◌-ℤ◌, ◌*ℤ◌};
 ghost use Rattle.plane.specs.Laws.{PlaneLaws};
 ghost use Rattle.plane.specs.Plane.{turn, inner, squared, InRange, largest};

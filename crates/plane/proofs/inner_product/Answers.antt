@@ -18,8 +18,8 @@ all c =
     (multiplied c.gap-3.result c.gap-4.result (pos a.y -ℤ pos p.y) (pos b.y -ℤ pos p.y) c.product-2.result c.gap-3.ensures c.gap-4.ensures
     (size_gap 65535 p.y a.y (omega arith) (omega arith)) (size_gap 65535 p.y b.y (omega arith) (omega arith)) c.product-2.ensures)
 
-pub overflow-add-result : goal.overflow-add-result
-overflow-add-result c = (all c).fit
+pub overflow_add-result : goal.overflow_add-result
+overflow_add-result c = (all c).fit
 
 pub returns : goal.returns
 returns c =

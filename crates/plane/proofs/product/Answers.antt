@@ -13,8 +13,8 @@ small p q h k = omega (arith, size_product 65535 p q h k)
 read : (p q : ℤ) → nat_abs p ≤ 65535 → nat_abs q ≤ 65535 → to_z w64 (of_z w64 p) *ℤ to_z w64 (of_z w64 q) ≡ p *ℤ q
 read p q h k = ap₂ ◌*ℤ◌ (held p p refl (omega arith)) (held q q refl (omega arith))
 
-pub overflow-mul-result : goal.overflow-mul-result
-overflow-mul-result c =
+pub overflow_mul-result : goal.overflow_mul-result
+overflow_mul-result c =
     let p = c.args.p in
     let q = c.args.q in
     subst (SFits w64) (sym (read p q c.requires.0 c.requires.1)) (fits (p *ℤ q) (small p q c.requires.0 c.requires.1))

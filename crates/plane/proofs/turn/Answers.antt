@@ -18,8 +18,8 @@ all c =
     (multiplied c.gap-3.result c.gap-4.result (pos b.y -ℤ pos a.y) (pos p.x -ℤ pos a.x) c.product-2.result c.gap-3.ensures c.gap-4.ensures
     (size_gap 65535 a.y b.y (omega arith) (omega arith)) (size_gap 65535 a.x p.x (omega arith) (omega arith)) c.product-2.ensures)
 
-pub overflow-sub-result : goal.overflow-sub-result
-overflow-sub-result c = (all c).fit
+pub overflow_sub-result : goal.overflow_sub-result
+overflow_sub-result c = (all c).fit
 
 pub returns : goal.returns
 returns c =

@@ -9,16 +9,16 @@ use Rattle.frame.proofs.digits.check_digits.Goals as goal
 pub returns-then-line-gt-LONGEST : goal.returns-then-line-gt-LONGEST
 returns-then-line-gt-LONGEST c = record { answer = grind (arith, nat_tests); digits = tt }
 
-pub returns-then-not-is-digit : goal.returns-then-not-is-digit
-returns-then-not-is-digit c =
+pub returns-then-not-is_digit : goal.returns-then-not-is_digit
+returns-then-not-is_digit c =
     let s = c.args.line.now in
-    let none = prefix_len-drop_no is_digit s c.loop-at.at 0 c.loop-at-test.true (sym c.if-not-is-digit.ensures) in
+    let none = prefix_len-drop_no is_digit s c.loop-at.at 0 c.loop-at-test.true (sym c.if-not-is_digit.ensures) in
     let fault = not_digit_line s c.loop-at.at (omega arith) (omega (arith, none, c.loop-at.invariant)) c.loop-at-test.true in
     record { answer = fault; digits = tt }
 
 pub loop-at-preserved : goal.loop-at-preserved
 loop-at-preserved c =
-    let more = prefix_len-drop_yes is_digit c.args.line.now c.loop-at.at 0 c.loop-at-test.true (sym c.if-not-is-digit.ensures) in
+    let more = prefix_len-drop_yes is_digit c.args.line.now c.loop-at.at 0 c.loop-at-test.true (sym c.if-not-is_digit.ensures) in
     omega (arith, more, c.loop-at.invariant)
 
 pub returns-then-line-eq1 : goal.returns-then-line-eq1

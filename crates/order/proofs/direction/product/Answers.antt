@@ -9,6 +9,6 @@ widened z r f g e = to_z-of_z g ∙ e ∙ to_z-of_z f
 
 pub returns : goal.returns
 returns c =
-    let p = widened c.args.p c.from.result c.ranges.p (record { sfits = c.from.type-inv }) c.from.ensures in
-    let q = widened c.args.q c.from-2.result c.ranges.q (record { sfits = c.from-2.type-inv }) c.from-2.ensures in
+    let p = widened c.args.p c.from.result c.ranges.p (record { sfits = c.from.type_inv }) c.from.ensures in
+    let q = widened c.args.q c.from-2.result c.ranges.q (record { sfits = c.from-2.type_inv }) c.from-2.ensures in
     to_z-of_z_to w128 _ (c.args.p *ℤ c.args.q) (search rules) (ap₂ ◌*ℤ◌ p q)

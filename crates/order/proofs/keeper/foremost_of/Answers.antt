@@ -15,7 +15,7 @@ returns g c =
     let before = g.T.Order.before in
     let met = g.met.T.Order in
     let row = c.args.row.now in
-    let e = c.into-held.ensures ∙ c.loop-x.invariant.1 ∙ ap (foremost before) (take_all _ _ c.loop-x-test.false) in
+    let e = c.into_held.ensures ∙ c.loop-x.invariant.1 ∙ ap (foremost before) (take_all _ _ c.loop-x-test.false) in
     let P : Option g.row.T.Denot → Type 0 = λ r. MatchOption r (row ≡ []) (λ w. First before row w) in
     record {
       value = e;
