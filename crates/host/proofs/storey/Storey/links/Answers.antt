@@ -5,9 +5,9 @@ use Rattle.host.specs.Storeys.{meaning_of}
 use Rattle.host.proofs.Links.{among_at, among_past}
 use Rattle.host.proofs.storey.Storey.links.Goals as goal
 
-pub returns-in-default-radio : goal.returns-in-default-radio
-returns-in-default-radio c =
-    sym (among_past (meaning_of c.args.self.now) c.args.i c.args.k (sym c.radio-2.ensures ∙ c.in-default-radio.is))
+pub returns-in_default-radio : goal.returns-in_default-radio
+returns-in_default-radio c =
+    sym (among_past (meaning_of c.args.self.now) c.args.i c.args.k (sym c.radio-2.ensures ∙ c.in_default-radio.is))
 
 pub returns-then-i-k : goal.returns-then-i-k
 returns-then-i-k c =
