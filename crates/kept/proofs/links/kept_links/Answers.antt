@@ -5,8 +5,8 @@ use Rattle.kept.proofs.links.kept_links.Goals as goal
 pub loop-i-init : goal.loop-i-init
 loop-i-init g c = summed_at_first (g.P.Planariser.blocking c.args.planariser.now) (g.R.Reading.meaning c.args.host.now)
 
-pub overflow-add-total : goal.overflow-add-total
-overflow-add-total g c =
+pub overflow_add-total : goal.overflow_add-total
+overflow_add-total g c =
     let few = (g.met.R.Reading.mapped c.args.host.now).few in
     let small = c.loop-i.invariant.small in
     omega arith
@@ -16,7 +16,7 @@ loop-i-preserved g c =
     let m = g.R.Reading.meaning c.args.host.now in
     let below : c.loop-i.i < length m.nodes = omega arith in
     summed_on (g.P.Planariser.blocking c.args.planariser.now) m c.loop-i.i c.loop-i.total c.from-total.result
-    c.loop-i.invariant below (c.from-total.ensures ∙ c.kept-above.ensures) (omega arith)
+    c.loop-i.invariant below (c.from-total.ensures ∙ c.kept_above.ensures) (omega arith)
 
 pub returns : goal.returns
 returns g c =

@@ -6,13 +6,13 @@ use Rattle.kept.proofs.view.is_blocked.Goals as goal
 pub loop-w-init : goal.loop-w-init
 loop-w-init g c = clear_at_first (g.P.Planariser.blocking c.args.planariser.now) (g.R.Reading.meaning c.args.host.now) c.args.u c.args.v
 
-pub returns-then-other-blocks : goal.returns-then-other-blocks
-returns-then-other-blocks g c =
+pub returns-then-other_blocks : goal.returns-then-other_blocks
+returns-then-other_blocks g c =
     clear_no_more (g.P.Planariser.blocking c.args.planariser.now) (g.R.Reading.meaning c.args.host.now) c.args.u c.args.v
-    c.loop-w.from c.in-Some.w c.loop-w.invariant c.in-Some.ensures c.if-other-blocks.ensures
+    c.loop-w.from c.in-Some.w c.loop-w.invariant c.in-Some.ensures c.if-other_blocks.ensures
 
-pub overflow-add-from : goal.overflow-add-from
-overflow-add-from g c =
+pub overflow_add-from : goal.overflow_add-from
+overflow_add-from g c =
     let few = (g.met.R.Reading.mapped c.args.host.now).few in
     let (f, h, b) = asked_some (g.R.Reading.meaning c.args.host.now) c.args.u.number c.loop-w.from c.in-Some.w c.in-Some.ensures in
     omega arith
@@ -26,9 +26,9 @@ loop-w-smaller g c =
 pub loop-w-preserved : goal.loop-w-preserved
 loop-w-preserved g c =
     clear_further (g.P.Planariser.blocking c.args.planariser.now) (g.R.Reading.meaning c.args.host.now) c.args.u c.args.v
-    c.loop-w.from c.in-Some.w c.loop-w.invariant c.in-Some.ensures c.if-other-blocks.ensures
+    c.loop-w.from c.in-Some.w c.loop-w.invariant c.in-Some.ensures c.if-other_blocks.ensures
 
 pub returns : goal.returns
 returns g c =
     clear_to_the_end (g.P.Planariser.blocking c.args.planariser.now) (g.R.Reading.meaning c.args.host.now) c.args.u c.args.v
-    c.loop-w.from c.loop-w.invariant c.in-default.ensures
+    c.loop-w.from c.loop-w.invariant c.in_default.ensures

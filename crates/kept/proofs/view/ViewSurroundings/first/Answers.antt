@@ -8,13 +8,13 @@ use Rattle.floor.specs.declared.node.Node.{Node}
 use Rattle.kept.proofs.Asking.{asked_some}
 use Rattle.kept.proofs.Rounding.{foremost_at_first, foremost_at_last, foremost_met, turned_there, offered_there, node_of, asked_apart}
 use Rattle.kept.proofs.view.ViewSurroundings.first.Goals as goal
-use Rattle.kept.proofs.view.ViewSurroundings.first.Goals.{in-Some-bearing-of, in-default-bearing-of}
+use Rattle.kept.proofs.view.ViewSurroundings.first.Goals.{in-Some-bearing_of, in_default-bearing_of}
 
 pub loop-w-init : goal.loop-w-init
 loop-w-init g c = (c.node-here.ensures, foremost_at_first _ _ _ _ _ _ c.new-keeper.result.held c.new-keeper.ensures)
 
-pub overflow-add-from : goal.overflow-add-from
-overflow-add-from g c =
+pub overflow_add-from : goal.overflow_add-from
+overflow_add-from g c =
     let few = (g.met.R.Reading.mapped c.args.self.now.host.now).few in
     let (f, h, b) = asked_some (g.R.Reading.meaning c.args.self.now.host.now) c.args.self.now.number c.loop-w.from c.in-Some.w c.in-Some.ensures in
     omega arith
@@ -41,32 +41,32 @@ loop-w-preserved g c =
     let here = c.loop-w.invariant.0 in
     let far : c.args.towards ≢ (node_at m i).point = away c.node-here.result c.args.towards c.is.result c.if-is.false c.is.ensures.apart (node_at m i) here in
     let near : w.point ≢ (node_at m i).point = asked_apart m (g.met.R.Reading.mapped c.args.self.now.host.now) i c.loop-w.from w c.in-Some.ensures in
-    let given : c.bearing-of.result ≡ Some (bearing c.args.sense c.args.start (node_at m i).point c.args.towards w) =
-    turned_there m i c.args.sense c.args.start c.args.towards w c.node-here.result c.bearing-of.result here c.bearing-of.ensures far near in (
+    let given : c.bearing_of.result ≡ Some (bearing c.args.sense c.args.start (node_at m i).point c.args.towards w) =
+    turned_there m i c.args.sense c.args.start c.args.towards w c.node-here.result c.bearing_of.result here c.bearing_of.ensures far near in (
       here,
-      elim c.match-bearing-of.branch [
-        | in-Some-bearing-of v ↦
-            let same : v.in-Some-bearing-of.bearing ≡ bearing c.args.sense c.args.start (node_at m i).point c.args.towards w =
-            some_same _ _ v.in-Some-bearing-of.is given in
-            foremost_met b m i c.args.sense c.args.start c.args.towards far c.loop-w.from c.loop-w.keeper.held w v.in-Some-bearing-of.bearing c.match-bearing-of.keeper.held
+      elim c.match-bearing_of.branch [
+        | in-Some-bearing_of v ↦
+            let same : v.in-Some-bearing_of.bearing ≡ bearing c.args.sense c.args.start (node_at m i).point c.args.towards w =
+            some_same _ _ v.in-Some-bearing_of.is given in
+            foremost_met b m i c.args.sense c.args.start c.args.towards far c.loop-w.from c.loop-w.keeper.held w v.in-Some-bearing_of.bearing c.match-bearing_of.keeper.held
             c.loop-w.invariant.1 c.in-Some.ensures same
             (ap (λ (k : Keeper Bearing). k.held) v.keeper-is
-            ∙ offered_there b m i w c.node-here.result c.loop-w.keeper.held v.offer-kept.new.keeper.held v.in-Some-bearing-of.bearing here
-            (ap (λ (x : Bearing). x.node) same) v.offer-kept.ensures)
-        | in-default-bearing-of v ↦ absurd (v.in-default-bearing-of.not-Some _ given)
+            ∙ offered_there b m i w c.node-here.result c.loop-w.keeper.held v.offer_kept.new.keeper.held v.in-Some-bearing_of.bearing here
+            (ap (λ (x : Bearing). x.node) same) v.offer_kept.ensures)
+        | in_default-bearing_of v ↦ absurd (v.in_default-bearing_of.not-Some _ given)
       ],
     )
 
-pub returns-in-Some-into-held : goal.returns-in-Some-into-held
-returns-in-Some-into-held g c =
+pub returns-in-Some-into_held : goal.returns-in-Some-into_held
+returns-in-Some-into_held g c =
     let b = g.P.Planariser.blocking c.args.self.now.planariser.now in
     let m = g.R.Reading.meaning c.args.self.now.host.now in
     let i = c.args.self.now.number in
     let far : c.args.towards ≢ (node_at m i).point = away c.node-here.result c.args.towards c.is.result c.if-is.false c.is.ensures.apart (node_at m i) c.loop-w.invariant.0 in
     record {
       nowhere = λ e. absurd (far e);
-      found = λ _. ap (node_of b m i c.args.sense c.args.start c.args.towards) c.in-Some-into-held.ensures
-          ∙ foremost_at_last b m i c.args.sense c.args.start c.args.towards c.loop-w.from c.loop-w.keeper.held c.loop-w.invariant.1 c.in-default.ensures;
+      found = λ _. ap (node_of b m i c.args.sense c.args.start c.args.towards) c.in-Some-into_held.ensures
+          ∙ foremost_at_last b m i c.args.sense c.args.start c.args.towards c.loop-w.from c.loop-w.keeper.held c.loop-w.invariant.1 c.in_default.ensures;
     }
 
 pub returns-in-None : goal.returns-in-None
@@ -77,5 +77,5 @@ returns-in-None g c =
     record {
       nowhere = λ _. refl;
       found = λ _. ap (node_of b m i c.args.sense c.args.start c.args.towards) c.in-None.ensures
-          ∙ foremost_at_last b m i c.args.sense c.args.start c.args.towards c.loop-w.from c.loop-w.keeper.held c.loop-w.invariant.1 c.in-default.ensures;
+          ∙ foremost_at_last b m i c.args.sense c.args.start c.args.towards c.loop-w.from c.loop-w.keeper.held c.loop-w.invariant.1 c.in_default.ensures;
     }
