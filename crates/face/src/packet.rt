@@ -101,8 +101,8 @@ impl Drop for Ended {
 
 // The record of a new packet, from its source's surroundings. Another node at the source's own point lies in no direction.
 fn opened<V: Surroundings>(around: &V, target: Node) -> Record
-    ensures nowhere { (here around.now).number ≢ target.number → target.point ≡ (here around.now).point → result ≡ opened_ended (here around.now) target Unreachable }
-    ensures value { ((here around.now).number ≢ target.number → target.point ≢ (here around.now).point) → result ≡ opened_from (here around.now) target (near around.now) }
+    ensures nowhere { (V.here around.now).number ≢ target.number → target.point ≡ (V.here around.now).point → result ≡ opened_ended (V.here around.now) target Unreachable }
+    ensures value { ((V.here around.now).number ≢ target.number → target.point ≢ (V.here around.now).point) → result ≡ opened_from (V.here around.now) target (V.near around.now) }
 {
     let source = around.node();
     let (hand, end) = if source.number == target.number {
@@ -134,7 +134,7 @@ fn opened<V: Surroundings>(around: &V, target: Node) -> Record
 impl Record {
     // Whether the link in hand is a kept link of the holder, and a send can still be counted.
     fn may_go<V: Surroundings>(&self, around: &V) -> bool
-        ensures { result ≡ may_go (near around.now) self.now }
+        ensures { result ≡ may_go (V.near around.now) self.now }
     {
         let Some(link) = self.hand else {
             return false;

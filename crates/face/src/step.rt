@@ -25,7 +25,7 @@ pub enum Arrival {
 
 // A kept neighbour, and the one first after it, itself coming last.
 fn turn_from<V: Surroundings>(around: &V, sense: Sense, from: u8) -> Option<(Node, Node)>
-    ensures { (go : Node → Node → Verdict) → turning (here around.now) (near around.now) sense from go ≡ led go result }
+    ensures { (go : Node → Node → Verdict) → turning (V.here around.now) (V.near around.now) sense from go ≡ led go result }
 {
     let Some(came) = around.known(from) else {
         return None;
@@ -38,7 +38,7 @@ fn turn_from<V: Surroundings>(around: &V, sense: Sense, from: u8) -> Option<(Nod
 
 // The node that a new round's first link goes to, none being left to walk to the best.
 fn reopening<V: Surroundings>(phase: Phase, best: Best, around: &V) -> Option<Node>
-    ensures { reopened (here around.now) (near around.now) phase best ≡ on_with (opens (here around.now) (near around.now) best) result }
+    ensures { reopened (V.here around.now) (V.near around.now) phase best ≡ on_with (opens (V.here around.now) (V.near around.now) best) result }
 {
     match phase {
         Phase::Round => None,
@@ -73,7 +73,7 @@ impl Record {
 
     // A new round opens at the best crossing, or the packet has gone astray.
     fn reopen<V: Surroundings>(&mut self, phase: Phase, best: Option<Best>, around: &V)
-        ensures { self.new ≡ under self.old (here around.now).number (on_with (reopened (here around.now) (near around.now) phase) best) }
+        ensures { self.new ≡ under self.old (V.here around.now).number (on_with (reopened (V.here around.now) (V.near around.now) phase) best) }
     {
         let at = around.node().number;
         let Some(best) = best else {
@@ -94,7 +94,7 @@ impl Record {
 
     // On to `next` under a course with sends to walk; into a new round under one with none.
     fn walk<V: Surroundings>(&mut self, course: Course, next: u8, around: &V)
-        ensures { self.new ≡ under self.old (here around.now).number (walked (here around.now) (near around.now) course next) }
+        ensures { self.new ≡ under self.old (V.here around.now).number (walked (V.here around.now) (V.near around.now) course next) }
     {
         if course.walk == 0 {
             return self.reopen(course.phase, course.best, around);
@@ -105,7 +105,7 @@ impl Record {
 
     // A round is closed, its first link going to `next`: no way on, or the shorter way to the best crossing.
     fn close<V: Surroundings>(&mut self, course: Course, next: u8, around: &V)
-        ensures { self.new ≡ under self.old (here around.now).number (closed (here around.now) (near around.now) course next course.best) }
+        ensures { self.new ≡ under self.old (V.here around.now).number (closed (V.here around.now) (V.near around.now) course next course.best) }
     {
         let at = around.node().number;
         let best = match course.best {
@@ -138,7 +138,7 @@ impl Record {
 
     // What the receiver finds, the packet having come from node `from`.
     fn arrival<V: Surroundings>(&self, from: u8, around: &V) -> Arrival
-        ensures { verdict (here around.now) (near around.now) self.now from ≡ upon (here around.now) (near around.now) self.now from result }
+        ensures { verdict (V.here around.now) (V.near around.now) self.now from ≡ upon (V.here around.now) (V.near around.now) self.now from result }
     {
         let at = around.node().number;
         if at == self.target.number {
@@ -163,7 +163,7 @@ impl Record {
 
     /// The one local step: the packet has come from node `from` to a node with these surroundings.
     pub fn arrive<V: Surroundings>(&mut self, from: u8, around: &V)
-        ensures { self.new ≡ under self.old (here around.now).number (verdict (here around.now) (near around.now) self.old from) }
+        ensures { self.new ≡ under self.old (V.here around.now).number (verdict (V.here around.now) (V.near around.now) self.old from) }
     {
         let at = around.node();
         let link = Link {

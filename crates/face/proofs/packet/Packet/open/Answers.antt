@@ -19,4 +19,4 @@ returns g c =
     = opened_in_view r target b (g.P.Planariser.blocking view.planariser.now) m (g.R.Reading.meaning view.host.now) s view.number
     (ap g.P.Planariser.blocking c.new-view.ensures.1.0) (ap g.R.Reading.meaning c.new-view.ensures.0) c.new-view.ensures.1.1 c.opened.ensures.value in
     open_is m s t p q (sym c.in-Some-Some.ensures) (sym c.in-Some-Some.ensures') b
-    (g.met.R.Reading.mapped c.args.host.now) (search rules) (search rules) r c.take-up.result c.take-up.ensures made
+    (g.met.R.Reading.mapped c.args.host.now) (search rules) (search rules) r c.take_up.result c.take_up.ensures made
