@@ -62,12 +62,12 @@ module _ {b : Blocks} {m : Meaning} (R : Rotation b m) where
   -- at v, from its kept neighbour u
   pub turn_after : (v u : ℕ) → keeps b m v u ≡ true → (go : Node → Node → Verdict) → turning (nd m v) (near b m v) Clockwise u go ≡ go (nd m u) (nd m (after v u))
   turn_after v u k go =
-      ap (on_with (λ (un : Node). on_with (go un) (first_round Clockwise FullTurn (pt m v) (way (pt m v) un.point) (near b m v)))) (R.Known-is v u k)
+      ap (on_with (λ (un : Node). on_with (go un) (first_round Clockwise FullTurn (pt m v) (way (pt m v) un.point) (near b m v)))) (R.known_is v u k)
       ∙ ap (on_with (go (nd m u))) (R.first_after v u k)
 
   pub turn_before : (v u : ℕ) → keeps b m v u ≡ true → (go : Node → Node → Verdict) → turning (nd m v) (near b m v) Counter u go ≡ go (nd m u) (nd m (before v u))
   turn_before v u k go =
-      ap (on_with (λ (un : Node). on_with (go un) (first_round Counter FullTurn (pt m v) (way (pt m v) un.point) (near b m v)))) (R.Known-is v u k)
+      ap (on_with (λ (un : Node). on_with (go un) (first_round Counter FullTurn (pt m v) (way (pt m v) un.point) (near b m v)))) (R.known_is v u k)
       ∙ ap (on_with (go (nd m u))) (R.first_before v u k)
 
   -- at v, behind a round of l links from d, with j sends to walk: on, or into a new round
@@ -82,7 +82,7 @@ module _ {b : Blocks} {m : Meaning} (R : Rotation b m) where
 
     pub opens_back : (w : ℕ) → keeps b m v best.link.from ≡ true
         → walked_at b m v (walk_course Back d place l best 0) w ≡ GoesOn best.link.from (round_course (v, best.link.from) best.place 0 None)
-    opens_back w k = ap (on_with (opens (nd m v) (near b m v) best)) (R.Known-is v best.link.from k)
+    opens_back w k = ap (on_with (opens (nd m v) (near b m v) best)) (R.known_is v best.link.from k)
 
     -- a closed round whose first link goes to w, and whose best is not marked
     module _ (w : ℕ) (bare : best.marked ≡ false) where

@@ -1,6 +1,6 @@
 //! Rows of bytes as hexadecimal digits, two a byte.
 ghost use Rattle.std.specs.Prelude.{◌≡◌, ◌+◌, ◌*◌, ◌/◌, ◌%◌, ◌<◌, ◌≤◌, true, length, take, Ok, Err, slice_set};
-ghost use Rattle.std.specs.List.{AllByRecursion as All};
+ghost use Rattle.std.specs.List.{AllByRecursion};
 ghost use Rattle.frame.specs.Digits.{digit, is_digit, worth, paired, bytes_in};
 
 use crate::fault::LineFault;
@@ -43,7 +43,7 @@ fn from_digit(c: u8) -> u8
 /// Looks for a line's first fault.
 pub fn check_digits(line: &[u8]) -> Result<(), LineFault>
     ensures answer { elim result [ Ok _ ↦ bytes_in line.now ≡ Ok (paired line.now) | Err fault ↦ bytes_in line.now ≡ Err fault ] }
-    ensures digits { elim result [ Ok _ ↦ (length line.now ≤ 80) × All (λ c. is_digit c ≡ true) line.now | Err _ ↦ Unit {0} ] }
+    ensures digits { elim result [ Ok _ ↦ (length line.now ≤ 80) × AllByRecursion (λ c. is_digit c ≡ true) line.now | Err _ ↦ Unit {0} ] }
 {
     if line.len() > LONGEST {
         return Err(LineFault::TooLong);
@@ -61,7 +61,7 @@ pub fn check_digits(line: &[u8]) -> Result<(), LineFault>
 
 /// Puts the bytes that a line of digits spells into a room, and tells how many they are.
 pub fn pair_up(line: &[u8], room: &mut [u8; MOST_BYTES]) -> usize
-    requires { (length line.now ≤ 80) × (All (λ c. is_digit c ≡ true) line.now) }
+    requires { (length line.now ≤ 80) × (AllByRecursion (λ c. is_digit c ≡ true) line.now) }
     ensures { (result ≤ 40) × (take result room.new ≡ paired line.now) }
 {
     let count = line.len() / 2;

@@ -1,6 +1,6 @@
 //! Frames as rows of bytes, the check byte last.
 ghost use Rattle.std.specs.Prelude.{◌≡◌, ◌<◌, length, Ok};
-ghost use Rattle.std.specs.List.{AllByRecursion as All};
+ghost use Rattle.std.specs.List.{AllByRecursion};
 ghost use Rattle.frame.specs.Digits.{spelled};
 ghost use Rattle.frame.specs.Frames.{body, by_kind, check, checked, frame_in};
 ghost use Rattle.frame.specs.Lines.{text, told, held};
@@ -75,7 +75,7 @@ pub fn read_row(row: &[u8]) -> Result<Frame, FrameFault>
 fn write_row(row: &[u8], buf: &mut [u8]) -> Result<usize, ShortBuffer>
     ensures answer { result ≡ told (spelled (checked row.now)) buf.old }
     ensures buffer { buf.new ≡ held (spelled (checked row.now)) buf.old }
-    ensures bytes { All (λ b. b < 256) row.now }
+    ensures bytes { AllByRecursion (λ b. b < 256) row.now }
 {
     if buf.len() / 2 <= row.len() {
         return Err(ShortBuffer);
@@ -91,7 +91,7 @@ fn write_row(row: &[u8], buf: &mut [u8]) -> Result<usize, ShortBuffer>
 pub fn write_frame(frame: Frame, buf: &mut [u8]) -> Result<usize, ShortBuffer>
     ensures answer { result ≡ told (text frame) buf.old }
     ensures buffer { buf.new ≡ held (text frame) buf.old }
-    ensures bytes { All (λ b. b < 256) (body frame) }
+    ensures bytes { AllByRecursion (λ b. b < 256) (body frame) }
     ensures size { (0 < length (body frame)) × (length (body frame) < 40) }
     ensures back { by_kind (checked (body frame)) ≡ Ok frame }
 {
