@@ -11,12 +11,12 @@ returns g c =
     let m = g.H.Reading.meaning c.args.self.now.host in
     let n = net m c.args.self.now.lines.records in
     let list = c.args.list.now in
-    let carried = c.carry-on-carried in
+    let carried = c.carry_on-carried in
     record {
       call = subst
           (λ (ls : List (Option Record)). CarryDoes b n c.args.line c.args.budget list.memory.now list.len (net m ls) (Ok carried.result) carried.new.list.memory.now carried.new.list.len)
           (sym c.put.ensures)
-          (carry_made b n c.args.line c.args.budget list.memory.now list.len c.in-ok-packet.packet c.in-ok-packet.ensures
+          (carry_made b n c.args.line c.args.budget list.memory.now list.len c.in_ok-packet.packet c.in_ok-packet.ensures
           (ap is_some c.in-Some.is) carried.new.packet carried.result _ _ carried.ensures.packet carried.ensures.answer carried.ensures.list);
       lent = carried.ensures.lent;
       host = refl;
