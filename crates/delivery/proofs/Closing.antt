@@ -12,13 +12,13 @@ use Rattle.face.specs.declared.record.End.TheVariants.{Delivered, Unreachable}
 use Rattle.face.specs.Packet.{Verdict, GoesOn, Ends}
 use Rattle.orbit.specs.Walks.{In}
 use Rattle.orbit.proofs.Walking.{steps_next}
-use Rattle.orbit.proofs.Orbit.{face, size, face_round, face_closed, face_start, face_next}
+use Rattle.orbit.proofs.Orbit.{face, face_round, face_closed, face_start, face_next}
 use Rattle.orbit.proofs.Count.{count, Retraced}
 use Rattle.orbit.proofs.Darts.{Dart}
 use Rattle.delivery.specs.Law.{RightEnd}
-use Rattle.delivery.proofs.Ground.{nd, near, twin, spot, or_source, beyond, Ground}
+use Rattle.delivery.proofs.Ground.{twin, spot, or_source, beyond, Ground}
 use Rattle.orbit.proofs.Past.{later, sends_later}
-use Rattle.delivery.proofs.BestSoFar.{round_course, BestAt, best_of, BestIs, nothing, something, best_none}
+use Rattle.delivery.proofs.BestSoFar.{round_course, BestAt, BestIs, nothing, something, best_none}
 use Rattle.delivery.proofs.Sends.{going, walked_at, closed_at, walks_on, opens_ahead, opens_back, closed_ahead, closed_back}
 use Rattle.delivery.proofs.Entry.{dart_keeps, twin_in, reaches, reaches_on, Beyond, Misses, AtEntry, Foremost, twin_to, twin_from, has_crossing, twin_out, next_entry}
 use Rattle.delivery.proofs.Trail.{F, at_step, around, front, History, spent, entry_there, start_there, step_there, on_entry, number_of, way_ahead, way_back, retraced_ahead, retraced_back, length_ahead, length_back, Tells, AtMostFour, tells_later, ahead_again, back_again, at_most_four}

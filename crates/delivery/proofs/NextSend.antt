@@ -13,10 +13,10 @@ use Rattle.face.specs.declared.record.Phase.TheVariants.{Ahead, Back}
 use Rattle.face.specs.Packet.{send}
 use Rattle.orbit.specs.Walks.{In}
 use Rattle.orbit.proofs.Walking.{steps_next}
-use Rattle.orbit.proofs.Orbit.{size, size_bound, face_round, face_closed}
+use Rattle.orbit.proofs.Orbit.{size_bound, face_round, face_closed}
 use Rattle.orbit.proofs.Darts.{Dart}
-use Rattle.delivery.proofs.Ground.{nd, near, keeps, twin, spot, Ground}
-use Rattle.delivery.proofs.BestSoFar.{round_course, best_of, BestIs, grow, earlier_or_last}
+use Rattle.delivery.proofs.Ground.{keeps, twin, spot, Ground}
+use Rattle.delivery.proofs.BestSoFar.{BestIs, grow, earlier_or_last}
 use Rattle.delivery.proofs.Sends.{going, walked_at, closed_at, judged, goes_on, ends, sent_home, judged_ahead, judged_back, best_then, judged_round, judged_closing}
 use Rattle.delivery.proofs.Entry.{dart_keeps, twin_in, no_loop, reaches, reaches_on}
 use Rattle.delivery.proofs.Trail.{F, at_step, around, front, twice, start_there, step_there, Tells, AtMostFour, tells_round, tells_ahead, tells_back, at_most_four, front_light, rest_light}

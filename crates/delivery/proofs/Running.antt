@@ -1,8 +1,8 @@
 -- A packet in the hand, sent on and on: it is never refused, and after so many sends it carries the record of the rules
-use Rattle.std.proofs.Common.{◌≡◌, ℕ, zero, suc, ◌+◌, ◌*◌, ◌<◌, ◌≤◌, Bool, true, false, cond, ◌&&◌, T, eqb, ltb, ◌⊎◌, Some, None, Ok, Err, Option, Result, sym, refl, ap, ◌∙◌, subst, ap₂, inl, inr, arith}
+use Rattle.std.proofs.Common.{◌≡◌, ℕ, zero, suc, ◌+◌, ◌*◌, ◌<◌, ◌≤◌, Bool, true, false, cond, ◌&&◌, T, eqb, ltb, ◌⊎◌, Some, None, Ok, Err, Option, Result, sym, refl, ap, ◌∙◌, subst, inl, inr, arith}
 use native.Mathlib.Decide.{dec_le}
 use Rattle.std.proofs.lemmas.Bool.Decides.{nat_tests}
-use Rattle.floor.specs.Meaning.{Meaning, Mapped, Serving, Joined, is_among, radio, place_of, serving_place, serving_at}
+use Rattle.floor.specs.Meaning.{Meaning, Mapped, Serving, is_among, radio, place_of, serving_place, serving_at}
 use Rattle.floor.specs.Planar.{Blocks, Lawful}
 use Rattle.kept.specs.Kept.{kept_links, kept_neighbours}
 use Rattle.face.specs.declared.record.Link.{Link}

@@ -10,7 +10,6 @@ use Rattle.face.specs.declared.record.Record.{Record}
 use Rattle.face.specs.declared.record.Phase.{Phase}
 use Rattle.face.specs.declared.record.Phase.TheVariants.{Ahead, Back}
 use Rattle.orbit.specs.Walks.{In}
-use Rattle.orbit.proofs.Orbit.{size}
 use Rattle.orbit.proofs.Rounds.{Follows}
 use Rattle.orbit.proofs.Darts.{Dart}
 use Rattle.delivery.specs.Law.{HasEnded, RightEnd}

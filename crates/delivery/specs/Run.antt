@@ -1,5 +1,5 @@
 -- What a run of a packet answers, and what is promised of it.
-use Rattle.std.specs.Prelude.{◌≡◌, ℕ, ◌*◌, ◌≤◌, Bool, cond, ◌&&◌, Some, None, Ok, Err, Option, Result}
+use Rattle.std.specs.Prelude.{ℕ, ◌*◌, ◌≤◌, Bool, cond, ◌&&◌, Some, None, Ok, Err, Option, Result}
 use Rattle.floor.specs.Meaning.{Meaning}
 use Rattle.floor.specs.Planar.{Blocks}
 use Rattle.kept.specs.Kept.{kept_links, kept_neighbours}

@@ -1,5 +1,5 @@
 -- Over a host: known neighbours, opening, and locality.
-use Rattle.std.proofs.Common.{◌≡◌, ℕ, Bool, true, false, cond, not, ◌&&◌, ◌||◌, eqb, ◌≢◌, List, [], ◌∷◌, is_some, Some, None, Ok, Option, sym, refl, ap, ◌∙◌, subst}
+use Rattle.std.proofs.Common.{◌≡◌, ℕ, Bool, true, false, cond, not, ◌&&◌, ◌||◌, eqb, ◌≢◌, List, [], ◌∷◌, is_some, Some, Ok, Option, sym, refl, ap, ◌∙◌, subst}
 use mathlib.Core.Path.{fun_ext}
 use Rattle.floor.specs.declared.node.Node.{Node}
 use Rattle.floor.specs.declared.node.Radio.{Radio}
@@ -9,7 +9,7 @@ use Rattle.floor.specs.Planar.{Blocks}
 use Rattle.kept.specs.Kept.{kept, node_at, node_or_origin}
 use Rattle.face.specs.declared.record.Record.{Record}
 use Rattle.face.specs.declared.packet.Packet.{Packet}
-use Rattle.face.specs.Packet.{received, sent_along, send, opened_at, opened_between, opening}
+use Rattle.face.specs.Packet.{received, sent_along, opened_at, opened_between, opening}
 use Rattle.face.specs.Hand.{in_hand, opened_from, opened_if, open_answer, SendsAreLocal}
 
 -- ---- among the neighbours, or found there

@@ -1,5 +1,5 @@
 -- Packets in the hand, by the records that they carry: what opening, forwarding and receiving answer.
-use Rattle.std.specs.Prelude.{◌≡◌, ℕ, Bool, true, false, cond, ◌&&◌, List, Some, None, Ok, Err, Option, Result, ◌==◌, nat_lt}
+use Rattle.std.specs.Prelude.{◌≡◌, ℕ, Bool, false, cond, ◌&&◌, List, Some, None, Ok, Err, Option, Result, ◌==◌, nat_lt}
 use Rattle.plane.specs.declared.Point.{Point}
 use Rattle.plane.specs.Plane.{way}
 use Rattle.order.specs.declared.Sense.TheVariants.{Clockwise}

@@ -4,7 +4,6 @@ use lib.Signed.{mag}
 use Rattle.std.proofs.lemmas.List.{drop_more, drop_all, take_rest}
 use Rattle.std.proofs.lemmas.Bool.{eq-eqb, ne_eqb, eqb-true, and_parts, and_from}
 use Rattle.plane.specs.declared.Point.{Point}
-use Rattle.plane.specs.Plane.{turn}
 use Rattle.floor.specs.Lists.{some_is}
 use Rattle.floor.specs.Placing.{same, straight, on_a_line}
 

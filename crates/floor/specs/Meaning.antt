@@ -1,5 +1,5 @@
 -- A host's meaning: its nodes and their reach; neighbours, and what chains of radio links join.
-use Rattle.std.specs.Prelude.{◌≡◌, ℕ, suc, ◌*◌, ◌≤◌, Bool, false, cond, not, ◌&&◌, T, List, [], ◌∷◌, length, pos, Some, None, Option, int_le}
+use Rattle.std.specs.Prelude.{ℕ, suc, ◌*◌, ◌≤◌, Bool, false, cond, not, ◌&&◌, T, List, [], ◌∷◌, length, pos, Some, None, Option, int_le}
 use Rattle.plane.specs.declared.Point.{Point}
 use Rattle.plane.specs.Plane.{squared}
 use Rattle.floor.specs.declared.node.Node.{Node}

@@ -1,5 +1,5 @@
 -- What a host is asked, and what a switching alters.
-use Rattle.std.specs.Prelude.{ℕ, Bool, set, Some, None, Option, nat_le, slice_set}
+use Rattle.std.specs.Prelude.{ℕ, Bool, Some, None, Option, nat_le, slice_set}
 use Rattle.floor.specs.declared.node.Node.{Node}
 use Rattle.floor.specs.declared.node.Radio.{Radio}
 use Rattle.floor.specs.Lists.{find}

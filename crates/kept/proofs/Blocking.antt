@@ -1,5 +1,5 @@
 -- Whether a neighbour blocks, asked of one neighbour after the other
-use Rattle.std.proofs.Common.{◌≡◌, ℕ, ◌+◌, Bool, true, false, ◌&&◌, ◌||◌, List, [], ◌∷◌, Some, None, sym, refl, ap, ◌∙◌}
+use Rattle.std.proofs.Common.{◌≡◌, ℕ, ◌+◌, Bool, true, false, ◌&&◌, ◌||◌, List, Some, None, sym, ap, ◌∙◌}
 use Rattle.floor.specs.declared.node.Node.{Node}
 use Rattle.floor.specs.Lists.{differ}
 use Rattle.floor.specs.Meaning.{Meaning, neighbours}

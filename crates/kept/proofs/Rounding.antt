@@ -1,22 +1,21 @@
 -- The kept neighbours of a node, asked for one by one: the one of a number, and the first round the node
-use Rattle.std.proofs.Common.{◌≡◌, ℕ, zero, suc, ◌+◌, ◌<◌, ◌≤◌, Bool, true, false, cond, not, ◌&&◌, ◌||◌, eqb, leb, ◌≢◌, ◌⊎◌, List, [], ◌∷◌, length, Some, None, Option, sym, refl, ap, ◌∙◌, subst, ap₂, inl, inr, arith}
+use Rattle.std.proofs.Common.{◌≡◌, ℕ, suc, ◌+◌, ◌<◌, Bool, true, false, cond, not, ◌&&◌, eqb, leb, ◌≢◌, List, [], ◌∷◌, length, Some, None, Option, sym, refl, ap, ◌∙◌, subst, ap₂, inl, arith}
 use Rattle.std.proofs.lemmas.Bool.Decides.{nat_tests}
 use Rattle.plane.specs.declared.Point.{Point}
 use Rattle.plane.specs.Plane.{way}
 use Rattle.order.specs.declared.Sense.{Sense}
 use Rattle.order.specs.declared.Start.{Start}
 use Rattle.order.specs.Foremost.{held, foremost, offered}
-use Rattle.order.specs.Directions.{sooner, earlier, direction}
+use Rattle.order.specs.Directions.{sooner, earlier}
 use Rattle.order.proofs.Sooner.{points_sooner}
 use Rattle.floor.specs.declared.node.Node.{Node}
 use Rattle.floor.specs.declared.node.Radio.{Radio}
-use Rattle.floor.specs.Lists.{differ, find, those}
-use Rattle.floor.specs.Meaning.{Meaning, Mapped, radio, neighbours, point_at, place_of}
+use Rattle.floor.specs.Lists.{find, those}
+use Rattle.floor.specs.Meaning.{Meaning, Mapped, radio, neighbours, place_of}
 use Rattle.floor.specs.Planar.{Blocks}
 use Rattle.host.specs.Questions.{next_neighbour}
 use Rattle.kept.specs.declared.bearing.Bearing.{Bearing}
 use Rattle.kept.specs.Kept.{blocked, kept, first_round, node_at, node_or_origin}
-use Rattle.kept.specs.Laws.{Near}
 use Rattle.kept.specs.Bearings.{bearing, offered_unless}
 use Rattle.kept.proofs.Lists.{Has, those_has}
 use Rattle.kept.proofs.Near.{neighbours_has, serving_radio}

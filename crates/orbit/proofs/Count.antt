@@ -1,14 +1,13 @@
 -- How many sends a run makes, and how many over one link
-use mathlib.Core.Path.{◌≡◌, refl, sym, subst, ap, ◌∙◌}
+use mathlib.Core.Path.{◌≡◌, refl, subst, ap}
 use mathlib.Core.Bool.{Bool, true, false}
 use mathlib.Core.List.{List, [], ◌∷◌, ◌++◌, map, reverse, reverse_aux}
 use mathlib.Core.Logic.{◌⊎◌, inl, inr}
-use Prim.Native.Nat.{ℕ, zero, suc, ◌+◌, ◌-◌, ◌*◌, ◌≤◌, ◌<◌}
+use Prim.Native.Nat.{ℕ, suc, ◌+◌, ◌-◌, ◌*◌, ◌≤◌, ◌<◌}
 use native.Mathlib.Omega.{arith}
-use native.Mathlib.Decide.{dec_le}
 use lib.ListN.{length, take, drop, length-append, length-map, length-reverse, length-drop, length-take, take-append-drop}
-use Rattle.orbit.specs.Walks.{In, Inside, Apart}
-use Rattle.orbit.proofs.Sets.{Rest, without, joined, Scattered, Within, apart_joined, scattered_fits}
+use Rattle.orbit.specs.Walks.{In, Apart}
+use Rattle.orbit.proofs.Sets.{without, joined, Scattered, Within, apart_joined, scattered_fits}
 
 -- a closed round: the darts that it sent, and the sends of the walk behind it
 pub record Lap (A : Type 0) : Type 0 where

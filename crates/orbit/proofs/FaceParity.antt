@@ -1,13 +1,10 @@
 -- Sums over a face
-use mathlib.Core.Path.{◌≡◌, refl, sym, subst, ap, ap₂, ◌∙◌}
+use mathlib.Core.Path.{◌≡◌, refl, sym, ap, ◌∙◌}
 use mathlib.Core.Bool.{Bool, true, ◌&&◌}
-use mathlib.Core.List.{List, [], ◌∷◌}
-use mathlib.Core.Logic.{inl, inr}
-use Prim.Native.Nat.{ℕ, zero, suc, ◌<◌}
-use native.Mathlib.Omega.{arith}
-use Rattle.orbit.specs.Walks.{In, ◌⊕◌, parity, steps, walk}
+use Prim.Native.Nat.{ℕ, zero, suc}
+use Rattle.orbit.specs.Walks.{In, ◌⊕◌, parity, walk}
 use Rattle.orbit.proofs.Parity.{parity_shift}
-use Rattle.orbit.proofs.Orbit.{Turning, face, size, face_is, face_closed, face_next, face_start, face_size, face_at, face_inside}
+use Rattle.orbit.proofs.Orbit.{Turning, face, size, face_is, face_closed, face_next, face_start, face_size, face_inside}
 use Rattle.orbit.proofs.ParityLaw.{Turns, ends, winding, law, law_between}
 
 module _ {A : Type 0} (p : Turning A) where

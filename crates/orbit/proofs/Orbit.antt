@@ -1,11 +1,10 @@
 -- The face of d: what an injective function of a finite set meets from d until it is back at d
 use mathlib.Core.Path.{◌≡◌, refl, sym, subst, ap, ◌∙◌}
-use mathlib.Core.List.{List, [], ◌∷◌}
+use mathlib.Core.List.{List}
 use mathlib.Core.Logic.{◌⊎◌, inl, inr, ◌↔◌}
 use Prim.Native.Nat.{ℕ, zero, suc, ◌+◌, ◌-◌, ◌≤◌, ◌<◌}
 use native.Mathlib.Omega.{arith}
 use native.Mathlib.Decide.{dec_le}
-use native.Mathlib.Nat.{add_comm, add-sub_cancel}
 use lib.ListN.{length}
 use Rattle.orbit.specs.Walks.{In, Inside, Apart, Disjoint, steps, walk}
 use Rattle.orbit.proofs.Sets.{in?, apart_fits}

@@ -1,6 +1,6 @@
 -- The parity law of a closed walk, from its identities dart by dart and corner by corner
 use mathlib.Core.Path.{◌≡◌, refl, sym, ap, ap₂, ◌∙◌}
-use mathlib.Core.Bool.{Bool, true, false, not, ◌&&◌}
+use mathlib.Core.Bool.{Bool, true, false, ◌&&◌}
 use mathlib.Core.List.{List}
 use native.Mathlib.Omega.{arith}
 use Rattle.orbit.specs.Walks.{In, ◌⊕◌, parity}

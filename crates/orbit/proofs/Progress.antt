@@ -1,11 +1,10 @@
 -- How many darts of a closed walk are nearer than the entry: odd exactly when the walk is at the entry
-use mathlib.Core.Path.{◌≡◌, refl, sym, subst, ap, ap₂, ◌∙◌}
-use mathlib.Core.Bool.{Bool, true, false, ◌&&◌, true≢false}
-use mathlib.Core.List.{List, [], ◌∷◌}
-use mathlib.Core.Logic.{◌⊎◌, inl, inr}
+use mathlib.Core.Path.{◌≡◌, ap, ◌∙◌}
+use mathlib.Core.Bool.{Bool, false, ◌&&◌}
+use mathlib.Core.List.{List}
 use native.Mathlib.Omega.{arith}
-use Rattle.orbit.specs.Walks.{In, Apart, ◌⊕◌, parity}
-use Rattle.orbit.proofs.Parity.{parity_same, parity_add, parity_none, parity_one, parity_absent, odd_has}
+use Rattle.orbit.specs.Walks.{In, ◌⊕◌, parity}
+use Rattle.orbit.proofs.Parity.{parity_same, parity_add, parity_none}
 use Rattle.orbit.proofs.ParityLaw.{winding}
 
 module _ {A : Type 0} {N : Type 0} (tail head : A → N) (xs : List A) (turned : A → Bool) where

@@ -1,13 +1,8 @@
 -- Rounds whose entries grow walk faces that have nothing in common
-use mathlib.Core.Path.{◌≡◌, refl, sym, subst, ap, ◌∙◌}
-use mathlib.Core.List.{List, [], ◌∷◌, map}
-use mathlib.Core.Logic.{◌⊎◌, inl, inr}
-use Prim.Native.Nat.{ℕ, zero, suc, ◌+◌, ◌≤◌, ◌<◌}
-use native.Mathlib.Omega.{arith}
-use Rattle.orbit.specs.Walks.{In, Inside, Apart, Disjoint, steps, walk}
+use mathlib.Core.List.{List, [], ◌∷◌}
+use Rattle.orbit.specs.Walks.{In}
 use Rattle.orbit.proofs.Sets.{Away, Scattered, Within}
-use Rattle.orbit.proofs.Walking.{in_walk, walk_in}
-use Rattle.orbit.proofs.Orbit.{Turning, Round, face, size, face_apart, face_inside, face_has, face_round, faces_disjoint, front_apart, front_inside}
+use Rattle.orbit.proofs.Orbit.{Turning, face, face_apart, face_inside, faces_disjoint}
 
 module _ {A : Type 0} (p : Turning A) where
   abbrev pub faces : List A → List (List A)

@@ -1,12 +1,12 @@
 -- Steps and walks along a function
 use mathlib.Core.Path.{◌≡◌, refl, sym, subst, ap, ◌∙◌}
-use mathlib.Core.List.{List, [], ◌∷◌, ◌++◌}
-use mathlib.Core.Logic.{◌⊎◌, inl, inr}
+use mathlib.Core.List.{List, ◌∷◌}
+use mathlib.Core.Logic.{inl, inr}
 use Prim.Native.Nat.{ℕ, zero, suc, ◌+◌, ◌≤◌, ◌<◌}
 use native.Mathlib.Omega.{arith}
 use native.Mathlib.Nat.{add-suc, suc-add, add-zero, zero-add}
 use lib.ListN.{length, take, drop, get_or}
-use Rattle.orbit.specs.Walks.{In, Inside, Apart, steps, walk}
+use Rattle.orbit.specs.Walks.{In, Inside, steps, walk}
 
 module _ {A : Type 0} (next : A → A) where
   pub steps_next : (k : ℕ) (d : A) → steps next (suc k) d ≡ next (steps next k d)

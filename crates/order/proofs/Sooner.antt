@@ -4,7 +4,7 @@ use borrow.Author.Differences.{ints}
 use lib.IntN.{+ℤ_comm}
 use lib.Signed.{lt_z}
 use Rattle.std.proofs.lemmas.Bool.Decides.{eqb_tells}
-use Rattle.plane.specs.Plane.{Vector, way, cross, dot, positive}
+use Rattle.plane.specs.Plane.{Vector, way, dot, positive}
 use Rattle.plane.specs.declared.Point.{Point}
 use Rattle.plane.proofs.Ring.{mul, neg, sub, lit, ring}
 use Rattle.plane.proofs.Positive.{mul_pos, add_pos_le, square_nonneg}

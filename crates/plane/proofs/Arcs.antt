@@ -1,14 +1,13 @@
 -- The clockwise arc, strictly inside: its laws. Seen from v; no level and no weight is spoken of.
-use mathlib.Core.Path.{◌≡◌, refl, sym, ◌∙◌, ap, ap₂, subst}
-use mathlib.Core.Bool.{Bool, true, false, not, cond}
+use mathlib.Core.Path.{◌≡◌, refl, sym, ◌∙◌, ap, subst}
+use mathlib.Core.Bool.{Bool, true, false, not}
 use mathlib.Core.HLevel.{Discrete}
 use lib.Dec.{T}
-use lib.IntN.{ℤ, pos}
-use Rattle.plane.proofs.Sites.{Site, det, L, xor, and, or, most, inside}
-use Rattle.plane.proofs.Signs.{St, weak, mixed3, eqB, seen}
-use Rattle.plane.proofs.SignTable.{every, at, follows, same, same_is, no_or, not_true, not_not}
-use Rattle.plane.proofs.Strip.{Off, off_flip, left_sign, pqr, qrp, rpq, qpr, prq, rqp}
-use Rattle.plane.proofs.SharedEnds.{ppq, pqp, qpp}
+use Rattle.plane.proofs.Sites.{Site, L, and, or, most, inside}
+use Rattle.plane.proofs.Signs.{weak, mixed3, eqB, seen}
+use Rattle.plane.proofs.SignTable.{every, at, follows, no_or}
+use Rattle.plane.proofs.Strip.{Off, off_flip, left_sign, prq}
+use Rattle.plane.proofs.SharedEnds.{qpp}
 
 -- the mirror image: strictly inside the counter-clockwise arc from p to q
 abbrev pub insideᶜ : Site → Site → Site → Site → Bool

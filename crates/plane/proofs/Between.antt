@@ -1,17 +1,16 @@
 -- The strip from a up to a place x on the link a b: as Law, with x in the part of b. One sign may be 0.
-use mathlib.Core.Path.{◌≡◌, refl, sym, ◌∙◌, ap, ap₂, subst}
+use mathlib.Core.Path.{◌≡◌, refl, sym, ◌∙◌, ap, subst}
 use mathlib.Core.Bool.{Bool, true, false, not, cond}
 use native.Mathlib.Omega.{arith}
-use lib.Dec.{T}
-use lib.IntN.{ℤ, pos, negsuc, ◌+ℤ◌, ◌-ℤ◌, ◌*ℤ◌, neg_ℤ, *ℤ-zero}
-use lib.Signed.{◌<ℤ◌, ◌≤ℤ◌, lt_z}
+use lib.IntN.{ℤ, pos, ◌+ℤ◌, ◌*ℤ◌, neg_ℤ, *ℤ-zero}
+use lib.Signed.{◌<ℤ◌, lt_z}
 use borrow.Author.Differences.{ints}
-use Rattle.plane.proofs.Sites.{Site, det, L, xor, and, or, up, In, seg, hit, De, Sa, crossing}
+use Rattle.plane.proofs.Sites.{Site, det, L, xor, and, up, De, Sa, crossing}
 use Rattle.plane.proofs.Determinants.{det_same, det_cycle, det_flip}
-use Rattle.plane.proofs.Signs.{St, Strict, Wk, Weak, weak, tells, st_neg, wk_neg, st_mul, wk_mul, st_cycle, st_swap, wk_cycle, wk_swap}
+use Rattle.plane.proofs.Signs.{St, Strict, Wk, Weak, weak, st_mul, st_cycle, st_swap, wk_cycle, wk_swap}
 use Rattle.plane.proofs.SignTable.{not_not}
-use Rattle.plane.proofs.Strip.{Off, off_flip, off_cycle, left_sign, Frame, Signs, strip_signs, pqr, qrp, rpq, qpr, prq, rqp}
-use Rattle.plane.proofs.SharedEnds.{General₄, dart_a, De_twin, ppq, pqp, qpp}
+use Rattle.plane.proofs.Strip.{Off, off_cycle, left_sign, Frame, Signs, strip_signs, pqr, qrp, qpr, prq, rqp}
+use Rattle.plane.proofs.SharedEnds.{General₄, dart_a, pqp}
 
 -- x lies strictly between a and b: m parts of a, n of b
 pub record Between (a b x : Site) : Type 0 where

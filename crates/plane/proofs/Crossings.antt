@@ -1,25 +1,21 @@
 -- The crossing count in all cases
 use mathlib.Core.Path.{◌≡◌, refl, sym, ◌∙◌, ap, ap₂, subst}
 use mathlib.Core.Bool.{Bool, true, false, not, cond}
-use mathlib.Core.List.{List, [], ◌∷◌}
-use Prim.Native.Nat.{ℕ, zero, suc}
+use mathlib.Core.List.{[], ◌∷◌}
 use native.Mathlib.Omega.{arith}
-use lib.Dec.{T}
-use lib.IntN.{ℤ, pos, negsuc, ◌+ℤ◌, ◌-ℤ◌, ◌*ℤ◌, neg_ℤ, *ℤ-zero}
+use lib.IntN.{ℤ, pos, ◌+ℤ◌, ◌*ℤ◌, neg_ℤ, *ℤ-zero}
 use lib.Signed.{◌<ℤ◌, ◌≤ℤ◌, lt_z}
 use borrow.Author.Differences.{ints, false_is_lt}
-use Rattle.plane.proofs.Vectors.{Vector, turn, dot, diff}
-use Rattle.plane.proofs.Sites.{Site, det, node, far, place, L, xor, and, or, up, In, hit, seg, De, Sa, Sb, crossing, inside}
-use Rattle.plane.proofs.Ring.{E, var, add, mul, neg, sub, lit, ring}
-use Rattle.plane.proofs.Identities.{Vectorᵉ, turnᵉ}
+use Rattle.plane.proofs.Vectors.{Vector}
+use Rattle.plane.proofs.Sites.{Site, det, node, far, place, L, xor, and, or, hit, seg}
+use Rattle.plane.proofs.Ring.{E, var, add, mul, lit, ring}
+use Rattle.plane.proofs.Identities.{Vectorᵉ}
 use Rattle.plane.proofs.Determinants.{Siteᵉ, detᵉ, det_same, det_cycle}
-use Rattle.plane.proofs.Signs.{St, Strict, Wk, Weak, weak, wk_mul, st_cycle, tells}
-use Rattle.plane.proofs.SignTable.{same, same_is, is_same, follows, at4, at5}
-use Rattle.plane.proofs.Strip.{Off, off_flip, off_swap, off_cycle, left_sign, pqr, qrp, prq}
-use Rattle.plane.proofs.SharedEnds.{hit_twin, pqp, ppq, qpp}
-use Rattle.plane.proofs.Between.{Between}
-use Rattle.plane.proofs.Nearer.{Sided, count, nearer, size}
-use Rattle.plane.proofs.DartLaws.{Floor, is, xor_false}
+use Rattle.plane.proofs.Signs.{St, Wk, weak, wk_mul, st_cycle}
+use Rattle.plane.proofs.Strip.{left_sign, pqr}
+use Rattle.plane.proofs.SharedEnds.{hit_twin}
+use Rattle.plane.proofs.Nearer.{Sided, count, nearer}
+use Rattle.plane.proofs.DartLaws.{Floor, is}
 
 abbrev A : Vectorᵉ
 A = record { x = var 0; y = var 1 }

@@ -1,15 +1,14 @@
 -- Darts and corners of a floor: what a sum over a face adds up. All cases, degenerate ones too.
 use mathlib.Core.Path.{◌≡◌, refl, sym, ◌∙◌, ap, ap₂, subst}
-use mathlib.Core.Bool.{Bool, true, false, not, cond}
-use mathlib.Core.HLevel.{Discrete}
+use mathlib.Core.Bool.{Bool, true, false, not}
 use lib.Dec.{T}
-use lib.IntN.{ℤ, pos}
+use lib.IntN.{pos}
 use lib.Signed.{◌<ℤ◌}
 use Rattle.plane.proofs.Vectors.{Vector}
-use Rattle.plane.proofs.Sites.{Site, node, far, L, xor, and, or, up, In, hit, De, Sa, Sb, crossing, inside}
+use Rattle.plane.proofs.Sites.{Site, node, far, xor, and, up, De, Sa, Sb, crossing, inside}
 pub use Rattle.plane.proofs.General.{Floor, is}
-use Rattle.plane.proofs.Strip.{Off, off_flip, off_swap, off_cycle, Frame, General, dart, corner_low, corner_high}
-use Rattle.plane.proofs.SharedEnds.{General₄, dart_a, dart_b, dart_ab, dart_ba, De_twin, corner_a_first, corner_a_last, corner_b_first, corner_b_last, lone_a, lone_b, ppq, pqp, qpp}
+use Rattle.plane.proofs.Strip.{General, dart, corner_low, corner_high}
+use Rattle.plane.proofs.SharedEnds.{General₄, dart_a, dart_b, dart_ab, dart_ba, De_twin, corner_a_first, corner_a_last, corner_b_first, corner_b_last, lone_a, lone_b, pqp, qpp}
 use Rattle.plane.proofs.Arcs.{full_turn}
 
 pub clash {ℓ} : {X : Type ℓ} → true ≡ false → X

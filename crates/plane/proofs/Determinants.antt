@@ -1,7 +1,7 @@
 -- The identities of `det`: cyclic, alternating, Plücker seen from p, and the relation of the weights
-use mathlib.Core.Path.{◌≡◌, refl, sym, ◌∙◌, ap}
+use mathlib.Core.Path.{◌≡◌}
 use mathlib.Core.List.{List, [], ◌∷◌}
-use lib.IntN.{ℤ, pos, ◌+ℤ◌, ◌-ℤ◌, ◌*ℤ◌, neg_ℤ}
+use lib.IntN.{ℤ, pos, ◌+ℤ◌, ◌*ℤ◌, neg_ℤ}
 use Rattle.plane.proofs.Vectors.{Vector, cross, diff, turn}
 use Rattle.plane.proofs.Sites.{Site, det, node, far, place}
 use Rattle.plane.proofs.Ring.{E, var, add, mul, neg, sub, lit, ring}

@@ -1,22 +1,20 @@
 -- The direction D = N·(t − s) turned left a little: it is along no two nodes, t is just below s, and the corner at s that holds it
-use mathlib.Core.Path.{◌≡◌, refl, sym, ◌∙◌, ap, ap₂, subst}
-use mathlib.Core.Bool.{Bool, true, false, not, cond}
-use mathlib.Core.List.{List, [], ◌∷◌}
+use mathlib.Core.Path.{◌≡◌, refl, sym, ◌∙◌, ap, subst}
+use mathlib.Core.Bool.{Bool, true, false, not}
+use mathlib.Core.List.{[], ◌∷◌}
 use Prim.Native.Nat.{ℕ, zero, suc}
 use native.Mathlib.Omega.{arith}
-use lib.Dec.{T}
 use lib.IntN.{ℤ, pos, negsuc, ◌+ℤ◌, ◌-ℤ◌, ◌*ℤ◌, neg_ℤ, *ℤ-zero}
-use lib.Signed.{◌<ℤ◌, ◌≤ℤ◌, lt_z}
+use lib.Signed.{◌<ℤ◌, ◌≤ℤ◌}
 use borrow.Author.Differences.{ints}
-use Rattle.plane.proofs.Vectors.{Vector, cross, turn, dot, diff}
-use Rattle.plane.proofs.Sites.{Site, det, node, far, place, L, xor, and, or, most, up, inside}
+use Rattle.plane.proofs.Vectors.{Vector, cross, dot, diff}
+use Rattle.plane.proofs.Sites.{det, node, far, place, L, most, inside}
 use Rattle.plane.proofs.Ring.{E, var, add, mul, neg, sub, lit, ring}
-use Rattle.plane.proofs.Identities.{Vectorᵉ, crossᵉ, dotᵉ, turnᵉ, diffᵉ}
-use Rattle.plane.proofs.Determinants.{Siteᵉ, detᵉ, det_cycle, det_flip, det_same}
-use Rattle.plane.proofs.Positive.{mul_pos, square_nonneg, add_pos_le}
-use Rattle.plane.proofs.Signs.{St, Strict, sure, st_neg, st_mul, st_cycle, st_swap}
-use Rattle.plane.proofs.Strip.{Off, off_flip, off_swap, off_cycle, left_sign, pqr, qrp, rpq, qpr, prq, rqp}
-use Rattle.plane.proofs.SharedEnds.{pqp, ppq, qpp}
+use Rattle.plane.proofs.Identities.{Vectorᵉ, crossᵉ, dotᵉ, diffᵉ}
+use Rattle.plane.proofs.Determinants.{Siteᵉ, detᵉ, det_cycle, det_same}
+use Rattle.plane.proofs.Positive.{mul_pos}
+use Rattle.plane.proofs.Signs.{St, sure, st_neg, st_mul, st_cycle, st_swap}
+use Rattle.plane.proofs.Strip.{Off, off_flip, off_cycle, left_sign, pqr, prq}
 use Rattle.plane.proofs.Between.{plus, st_sum, sum_st, nought}
 use Rattle.plane.proofs.EntryDarts.{nonzero}
 use Rattle.plane.proofs.Nearer.{dir, Within, scaled, Sided, level_x}

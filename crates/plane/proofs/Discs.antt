@@ -1,20 +1,20 @@
 -- Two segments that cross: an end of one lies in the closed disc over the other. All orientations.
-use mathlib.Core.Path.{◌≡◌, refl, sym, ◌∙◌, ap, ap₂, subst}
+use mathlib.Core.Path.{◌≡◌, sym, subst}
 use mathlib.Core.Logic.{◌⊎◌, inl, inr}
-use mathlib.Core.Bool.{Bool, true, false, not, cond}
+use mathlib.Core.Bool.{Bool, true, false}
 use native.Mathlib.Omega.{arith}
 use lib.Dec.{T}
-use lib.IntN.{ℤ, pos, negsuc, ◌+ℤ◌, ◌-ℤ◌, ◌*ℤ◌, neg_ℤ}
+use lib.IntN.{ℤ, pos, ◌+ℤ◌, ◌-ℤ◌, neg_ℤ}
 use lib.Signed.{◌<ℤ◌, ◌≤ℤ◌}
 use borrow.Author.Differences.{ints}
-use Rattle.plane.proofs.Vectors.{Vector, cross, turn, inner, diff}
-use Rattle.plane.proofs.Sites.{Site, det, node, L, xor, and, or, crossing}
-use Rattle.plane.proofs.Ring.{E, var, add, mul, neg, sub, lit, ring}
-use Rattle.plane.proofs.Identities.{crossᵉ, turnᵉ, innerᵉ, diffᵉ, A, B, C, D, env}
+use Rattle.plane.proofs.Vectors.{Vector, turn, inner}
+use Rattle.plane.proofs.Sites.{node, L, xor, and, crossing}
+use Rattle.plane.proofs.Ring.{add, sub, lit, ring}
+use Rattle.plane.proofs.Identities.{turnᵉ, innerᵉ, A, B, C, D, env}
 use Rattle.plane.proofs.Positive.{pos_neg}
 use Rattle.plane.proofs.Facts.{crossing_disc, turn_swap}
 use Rattle.plane.proofs.Determinants.{det_turn}
-use Rattle.plane.proofs.Signs.{St, Strict}
+use Rattle.plane.proofs.Signs.{St}
 use Rattle.plane.proofs.Strip.{Off, left_sign}
 
 abbrev pub InDisc : Vector → Vector → Vector → Vector → Type 0

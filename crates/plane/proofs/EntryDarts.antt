@@ -1,23 +1,21 @@
 -- Darts of a floor and a place x on the link a b, in all cases; the places where links cross s t; darts at s
-use mathlib.Core.Path.{◌≡◌, refl, sym, ◌∙◌, ap, ap₂, subst}
-use mathlib.Core.Bool.{Bool, true, false, not, cond}
-use mathlib.Core.HLevel.{Discrete}
-use mathlib.Core.List.{List, [], ◌∷◌}
+use mathlib.Core.Path.{◌≡◌, refl, sym, ◌∙◌, ap, ap₂}
+use mathlib.Core.Bool.{Bool, true, false}
+use mathlib.Core.List.{[], ◌∷◌}
 use native.Mathlib.Omega.{arith}
-use lib.Dec.{T}
-use lib.IntN.{ℤ, pos, negsuc, ◌+ℤ◌, ◌-ℤ◌, ◌*ℤ◌, neg_ℤ}
-use lib.Signed.{◌<ℤ◌, ◌≤ℤ◌, lt_z}
+use lib.IntN.{ℤ, pos, neg_ℤ}
+use lib.Signed.{◌<ℤ◌}
 use borrow.Author.Differences.{ints}
-use Rattle.plane.proofs.Vectors.{Vector, turn, dot, diff}
-use Rattle.plane.proofs.Sites.{Site, det, node, far, place, L, xor, and, or, up, In, hit, De, Sa, Sb, crossing, inside}
-use Rattle.plane.proofs.Ring.{E, var, add, mul, neg, sub, lit, ring}
+use Rattle.plane.proofs.Vectors.{Vector, turn}
+use Rattle.plane.proofs.Sites.{Site, det, node, far, place, L, xor, and, up, De, Sa, crossing}
+use Rattle.plane.proofs.Ring.{E, var, add, mul, neg, lit, ring}
 use Rattle.plane.proofs.Identities.{Vectorᵉ, turnᵉ}
 use Rattle.plane.proofs.Determinants.{Siteᵉ, detᵉ}
 use Rattle.plane.proofs.Signs.{St, Strict, st_cycle}
-use Rattle.plane.proofs.Strip.{Off, off_flip, off_swap, off_cycle, left_sign, prq, Frame, General}
-use Rattle.plane.proofs.SharedEnds.{General₄, De_twin}
+use Rattle.plane.proofs.Strip.{Off, left_sign, prq, Frame}
+use Rattle.plane.proofs.SharedEnds.{De_twin}
 use Rattle.plane.proofs.Between.{Between, by_a, entry_apart, entry_b, entry_a, entry_ab}
-use Rattle.plane.proofs.DartLaws.{Floor, S, o, eq, is, one, back, Sa_b, clash, xor_false}
+use Rattle.plane.proofs.DartLaws.{Floor, S, eq, is, Sa_b, xor_false}
 
 pub nonzero : {b : Bool} {z : ℤ} → St b z → ¬ (z ≡ pos 0)
 nonzero {b = b} {z = z} s e = go b s.is

@@ -1,13 +1,11 @@
-use mathlib.Core.Path.{◌≡◌, refl, sym, ◌∙◌, ap}
+use mathlib.Core.Path.{◌≡◌}
 use mathlib.Core.Logic.{◌⊎◌, inl, inr}
-use native.Mathlib.Omega.{arith}
-use lib.IntN.{ℤ, pos, negsuc, ◌+ℤ◌, ◌-ℤ◌, ◌*ℤ◌, neg_ℤ}
+use lib.IntN.{pos, neg_ℤ}
 use lib.Signed.{◌<ℤ◌, ◌≤ℤ◌}
-use borrow.Author.Differences.{ints}
-use Rattle.plane.proofs.Vectors.{Vector, cross, turn, inner, diff}
-use Rattle.plane.proofs.Ring.{E, var, add, mul, neg, sub, lit, ring}
-use Rattle.plane.proofs.Identities.{crossᵉ, turnᵉ, innerᵉ, diffᵉ, A, B, C, D, env}
-use Rattle.plane.proofs.Positive.{add_pos, mul_pos, div_pos, neg_pos, pos-not-zero, sign_of, on_equal}
+use Rattle.plane.proofs.Vectors.{Vector, turn, inner}
+use Rattle.plane.proofs.Ring.{add, mul, neg, lit, ring}
+use Rattle.plane.proofs.Identities.{turnᵉ, innerᵉ, A, B, C, D, env}
+use Rattle.plane.proofs.Positive.{add_pos, mul_pos, neg_pos, pos-not-zero, sign_of}
 
 -- cyclic symmetry, antisymmetry
 pub turn_cycle : (a b c : Vector) → turn a b c ≡ turn b c a

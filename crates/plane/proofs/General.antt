@@ -1,12 +1,10 @@
 -- Nodes in general position, and a direction along no two of them
-use mathlib.Core.Path.{◌≡◌, refl}
-use mathlib.Core.Bool.{Bool, true, false, not}
+use mathlib.Core.Path.{◌≡◌}
+use mathlib.Core.Bool.{Bool, true, false}
 use mathlib.Core.HLevel.{Discrete}
-use Prim.Native.Nat.{ℕ, zero, suc}
-use lib.Dec.{T}
-use lib.IntN.{ℤ, pos}
+use lib.IntN.{pos}
 use Rattle.plane.proofs.Vectors.{Vector}
-use Rattle.plane.proofs.Sites.{Site, det, node, far, L, xor, and, or, up, hit, crossing, inside}
+use Rattle.plane.proofs.Sites.{Site, det, node, far}
 
 abbrev pub Off : Site → Site → Site → Type 0
 Off p q r = ¬ (det p q r ≡ pos 0)

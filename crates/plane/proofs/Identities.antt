@@ -1,8 +1,8 @@
-use mathlib.Core.Path.{◌≡◌, refl, sym, ◌∙◌, ap}
+use mathlib.Core.Path.{◌≡◌}
 use mathlib.Core.List.{List, [], ◌∷◌}
-use lib.IntN.{ℤ, pos, ◌+ℤ◌, ◌-ℤ◌, ◌*ℤ◌, neg_ℤ}
-use Rattle.plane.proofs.Vectors.{Vector, cross, dot, diff, turn, inner}
-use Rattle.plane.proofs.Ring.{E, var, add, mul, neg, sub, lit, ring}
+use lib.IntN.{ℤ, pos, ◌+ℤ◌, ◌-ℤ◌, ◌*ℤ◌}
+use Rattle.plane.proofs.Vectors.{Vector, cross, turn, inner}
+use Rattle.plane.proofs.Ring.{E, var, add, mul, sub, lit, ring}
 
 -- points and the same operations, as expressions
 pub record Vectorᵉ : Type 0 where

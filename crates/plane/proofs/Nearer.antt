@@ -1,23 +1,23 @@
 -- The crossing count: the direction D = N·(t − s) turned a little, levels and sides, and "crosses nearer to t"
 use mathlib.Core.Path.{◌≡◌, refl, sym, ◌∙◌, ap, ap₂, subst}
 use mathlib.Core.Bool.{Bool, true, false, not, cond}
-use mathlib.Core.List.{List, [], ◌∷◌}
-use Prim.Native.Nat.{ℕ, zero, suc}
+use mathlib.Core.List.{[], ◌∷◌}
+use Prim.Native.Nat.{zero, suc}
 use native.Mathlib.Omega.{arith}
 use lib.Dec.{T}
 use lib.IntN.{ℤ, pos, negsuc, ◌+ℤ◌, ◌-ℤ◌, ◌*ℤ◌, neg_ℤ, nat_abs, *ℤ_comm}
 use lib.Signed.{◌<ℤ◌, ◌≤ℤ◌, lt_z}
-use borrow.Author.Differences.{ints, true_is_lt, false_is_lt}
-use Rattle.plane.proofs.Vectors.{Vector, cross, dot, turn, inner, diff}
-use Rattle.plane.proofs.Sites.{Site, det, node, far, place, L, xor, and, or, up, seg, hit, crossing}
+use borrow.Author.Differences.{ints}
+use Rattle.plane.proofs.Vectors.{Vector, dot, turn, diff}
+use Rattle.plane.proofs.Sites.{det, node, far, place, L, xor, and, hit, crossing}
 use Rattle.plane.proofs.Ring.{E, var, add, mul, neg, sub, lit, ring}
-use Rattle.plane.proofs.Identities.{Vectorᵉ, crossᵉ, dotᵉ, turnᵉ, innerᵉ, diffᵉ}
+use Rattle.plane.proofs.Identities.{Vectorᵉ, dotᵉ, turnᵉ, diffᵉ}
 use Rattle.plane.proofs.Integers.{mul_neg}
-use Rattle.plane.proofs.Positive.{mul_pos, mul_nonneg, lt_le, pos_neg, add_pos, add_pos_le, add_nonneg}
-use Rattle.plane.proofs.Determinants.{det_turn, det_place, det_cycle, Siteᵉ, detᵉ}
-use Rattle.plane.proofs.Signs.{St, Strict, Weak, Wk, weak, tells, st_neg, st_mul, wk_mul, st_cycle, st_swap, levels, mixed3}
+use Rattle.plane.proofs.Positive.{mul_nonneg}
+use Rattle.plane.proofs.Determinants.{det_place, Siteᵉ, detᵉ}
+use Rattle.plane.proofs.Signs.{St, Strict, Weak, Wk, weak, tells, st_mul, wk_mul, st_cycle, st_swap, levels, mixed3}
 use Rattle.plane.proofs.Facts.{turn_swap}
-use Rattle.plane.proofs.Strip.{Off, off_swap, left_sign, pqr, qrp, rpq, qpr, prq, rqp}
+use Rattle.plane.proofs.Strip.{Off, off_swap, left_sign, pqr, qpr, prq, rqp}
 use Rattle.plane.proofs.Discs.{turn_sign}
 
 -- the direction

@@ -1,20 +1,19 @@
 -- The laws of the plane, in the words of points
-use mathlib.Core.Path.{◌≡◌, refl, sym, ◌∙◌, ap, ap₂, subst}
-use mathlib.Core.Bool.{Bool, true, false, not, cond}
-use mathlib.Core.List.{List, [], ◌∷◌}
+use mathlib.Core.Path.{◌≡◌, refl, sym, ◌∙◌, ap}
+use mathlib.Core.Bool.{true}
 use mathlib.Core.Logic.{◌≢◌}
-use lib.IntN.{ℤ, pos, neg_ℤ, ◌+ℤ◌, ◌-ℤ◌, ◌*ℤ◌}
-use lib.Signed.{lt_z, ◌<ℤ◌}
+use lib.IntN.{pos, ◌+ℤ◌}
+use lib.Signed.{◌<ℤ◌}
 use Rattle.plane.specs.declared.Point.{Point}
 use Rattle.plane.specs.Plane.{way, positive}
 use Rattle.plane.specs.Laws.{left, above, in_strip, hit, cross_over, Spread, PlaneLaws, ◌⊕◌}
-use Rattle.plane.proofs.Vectors.{Vector, cross, turn, diff, position}
-use Rattle.plane.proofs.Sites.{Site, det, node, far, L, up, In, De, crossing}
+use Rattle.plane.proofs.Vectors.{Vector, cross, turn, position}
+use Rattle.plane.proofs.Sites.{Site, node, far, L}
 use Rattle.plane.proofs.Ring.{add, ring}
 use Rattle.plane.proofs.Identities.{plücker, quad, turnᵉ, A, B, C, D, env}
 use Rattle.plane.proofs.Facts.{crossing_disc}
-use Rattle.plane.proofs.Determinants.{det_turn, det_far, det_flip}
-use Rattle.plane.proofs.Strip.{Off, General, Frame, dart, off_flip}
+use Rattle.plane.proofs.Determinants.{det_turn, det_far}
+use Rattle.plane.proofs.Strip.{Off, General, dart, off_flip}
 use Rattle.plane.proofs.SamePlace.{meet}
 
 three_turns : (a b c d : Vector) → turn a b c ≡ turn a b d +ℤ turn b c d +ℤ turn c a d

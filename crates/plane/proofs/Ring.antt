@@ -1,12 +1,10 @@
 -- Equations of ℤ by computing: an equation between two polynomials holds if their difference, multiplied out, is zero
-use mathlib.Core.Path.{◌≡◌, refl, sym, ◌∙◌, ap, ap₂, subst}
+use mathlib.Core.Path.{◌≡◌, refl, sym, ◌∙◌, ap, ap₂}
 use mathlib.Core.Bool.{Bool, true, false}
 use mathlib.Core.List.{List, [], ◌∷◌}
 use Prim.Native.Nat.{ℕ, zero, suc}
-use native.Mathlib.Omega.{arith}
 use lib.Dec.{T}
 use lib.IntN.{ℤ, pos, negsuc, ◌+ℤ◌, ◌*ℤ◌, neg_ℤ, +ℤ_assoc, +ℤ_comm, +ℤ_idl, +ℤ_idr, *ℤ_comm, zero-*ℤ, *ℤ-zero}
-use borrow.Author.Differences.{ints}
 use Rattle.plane.proofs.Integers.{mul_add, add_mul, mul_assoc, neg_one_mul, one_mul, swap4, zero_diff}
 
 -- ---- expressions, and what they mean

@@ -1,20 +1,20 @@
 -- Same place, same link: two links that cross s t at one place cross each other, unless they share an end
 use mathlib.Core.Path.{◌≡◌, refl, sym, ◌∙◌, ap, ap₂, subst}
-use mathlib.Core.Bool.{Bool, true, false, not, cond}
-use mathlib.Core.List.{List, [], ◌∷◌}
+use mathlib.Core.Bool.{Bool, true, false, not}
+use mathlib.Core.List.{[], ◌∷◌}
 use native.Mathlib.Omega.{arith}
 use lib.Dec.{T}
-use lib.IntN.{ℤ, pos, negsuc, ◌+ℤ◌, ◌-ℤ◌, ◌*ℤ◌, neg_ℤ, *ℤ-zero, *ℤ_comm}
-use lib.Signed.{◌<ℤ◌, ◌≤ℤ◌, lt_z}
+use lib.IntN.{ℤ, pos, ◌-ℤ◌, ◌*ℤ◌, neg_ℤ, *ℤ-zero, *ℤ_comm}
+use lib.Signed.{lt_z}
 use borrow.Author.Differences.{ints}
 use Rattle.plane.proofs.Vectors.{Vector, turn}
-use Rattle.plane.proofs.Sites.{Site, det, node, L, xor, and, or, crossing}
-use Rattle.plane.proofs.Ring.{E, var, add, mul, neg, sub, lit, ring}
+use Rattle.plane.proofs.Sites.{node, L, xor, crossing}
+use Rattle.plane.proofs.Ring.{var, mul, sub, lit, ring}
 use Rattle.plane.proofs.Identities.{Vectorᵉ, turnᵉ}
 use Rattle.plane.proofs.Integers.{mul_neg, neg_mul}
 use Rattle.plane.proofs.Signs.{St, Strict, tells, st_mul, eqB, neg_mul_neg}
 use Rattle.plane.proofs.SignTable.{and_first, and_second, and_both}
-use Rattle.plane.proofs.Strip.{Off, off_cycle, qrp, left_sign}
+use Rattle.plane.proofs.Strip.{Off}
 use Rattle.plane.proofs.Discs.{turn_sign}
 use Rattle.plane.proofs.Nearer.{size, size_pos, size_neg}
 

@@ -1,13 +1,13 @@
 -- Four sites: darts at an end of the link, and corners one of whose sides is the link
-use mathlib.Core.Path.{◌≡◌, refl, sym, ◌∙◌, ap, ap₂, subst}
+use mathlib.Core.Path.{◌≡◌, refl, sym, ◌∙◌, ap, ap₂}
 use mathlib.Core.Bool.{Bool, true, false, not, cond}
-use lib.IntN.{ℤ, pos, ◌+ℤ◌, ◌-ℤ◌, ◌*ℤ◌, neg_ℤ}
+use lib.IntN.{pos}
 use lib.Signed.{◌<ℤ◌, lt_z}
-use Rattle.plane.proofs.Sites.{Site, det, L, xor, and, or, most, up, In, seg, hit, De, Sa, Sb, crossing, inside}
+use Rattle.plane.proofs.Sites.{Site, det, L, xor, and, or, most, up, In, seg, hit, De, Sa, Sb, inside}
 use Rattle.plane.proofs.Signs.{St, weak, mixed3, levels}
 use Rattle.plane.proofs.Determinants.{det_same, det_cycle}
-use Rattle.plane.proofs.SignTable.{every, at, follows, same, same_is, no_or, not_true, not_not}
-use Rattle.plane.proofs.Strip.{Off, left_sign, pqr, qrp, rpq, qpr, prq, rqp}
+use Rattle.plane.proofs.SignTable.{every, at, follows, same, same_is, no_or, not_true}
+use Rattle.plane.proofs.Strip.{Off, left_sign, qrp, rpq, qpr, prq, rqp}
 
 -- ---- a site twice: no turn
 pub ppq : (p q : Site) → L p p q ≡ false

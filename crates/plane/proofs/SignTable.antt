@@ -1,5 +1,5 @@
 -- The finite checks: ten signs of five sites a y u v o, o at infinity
-use mathlib.Core.Path.{◌≡◌, refl, sym, ◌∙◌, ap, subst}
+use mathlib.Core.Path.{◌≡◌, refl, sym, subst}
 use mathlib.Core.Bool.{Bool, true, false, cond, not}
 use Rattle.plane.proofs.Sites.{xor, and, or, most}
 use Rattle.plane.proofs.Signs.{eqB, mixed3, mixed4}

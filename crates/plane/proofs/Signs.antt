@@ -1,14 +1,13 @@
 -- A Boolean as the sign of an integer, strictly (St) or with 0 allowed (Wk), and the rules that relations between integers give
 use mathlib.Core.Path.{◌≡◌, refl, sym, ◌∙◌, ap, subst}
 use mathlib.Core.Bool.{Bool, true, false, not}
-use Prim.Native.Nat.{ℕ, zero, suc}
+use Prim.Native.Nat.{zero, suc}
 use native.Mathlib.Omega.{arith}
-use lib.Dec.{T}
-use lib.IntN.{ℤ, pos, negsuc, ◌+ℤ◌, ◌-ℤ◌, ◌*ℤ◌, neg_ℤ, zero-*ℤ}
+use lib.IntN.{ℤ, pos, negsuc, ◌+ℤ◌, ◌*ℤ◌, neg_ℤ, zero-*ℤ}
 use lib.Signed.{◌<ℤ◌, ◌≤ℤ◌, lt_z}
 use borrow.Author.Differences.{ints, true_is_lt, false_is_lt}
-use Rattle.plane.proofs.Sites.{Site, det, L, xor, and, or}
-use Rattle.plane.proofs.Positive.{mul_pos, mul_nonneg, lt_le, neg_pos}
+use Rattle.plane.proofs.Sites.{Site, det, xor, or}
+use Rattle.plane.proofs.Positive.{mul_pos, mul_nonneg, lt_le}
 use Rattle.plane.proofs.Integers.{mul_neg, neg_mul}
 use Rattle.plane.proofs.Determinants.{det_cycle, det_swap, plücker₅, weights}
 

@@ -1,6 +1,5 @@
 -- Points with a weight. A node of the plane has weight 1, a direction has weight 0, the point (E·s + C·t)/(C + E) has weight C + E.
 -- All sign rules are of `det`, so one proof serves points, directions and places.
-use mathlib.Core.Path.{◌≡◌}
 use mathlib.Core.Bool.{Bool, true, false, not, cond, ◌&&◌, ◌||◌}
 use lib.IntN.{ℤ, pos, ◌+ℤ◌, ◌-ℤ◌, ◌*ℤ◌}
 use lib.Signed.{lt_z}

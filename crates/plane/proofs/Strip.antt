@@ -1,15 +1,15 @@
 -- Five sites: the rules hold of their signs, and the tables become statements
-use mathlib.Core.Path.{◌≡◌, refl, sym, ◌∙◌, ap, subst}
+use mathlib.Core.Path.{◌≡◌, refl, sym, ◌∙◌, ap}
 use mathlib.Core.Bool.{Bool, true, false, not, cond}
 use native.Mathlib.Omega.{arith}
 use borrow.Author.Differences.{ints}
 use Rattle.plane.proofs.Determinants.{det_flip, det_swap, det_cycle}
-use lib.IntN.{ℤ, pos, negsuc, ◌+ℤ◌, ◌-ℤ◌, ◌*ℤ◌, neg_ℤ}
-use lib.Signed.{◌<ℤ◌, ◌≤ℤ◌, lt_z}
-use Rattle.plane.proofs.Sites.{Site, det, L, xor, and, or, most, up, In, seg, hit, De, Sa, Sb, crossing, inside}
+use lib.IntN.{ℤ, pos, neg_ℤ}
+use lib.Signed.{◌<ℤ◌}
+use Rattle.plane.proofs.Sites.{Site, det, L, xor, and, most, up, hit, De, Sa, Sb, crossing, inside}
 pub use Rattle.plane.proofs.General.{Off}
-use Rattle.plane.proofs.Signs.{St, Wk, weak, sure, tells, st_cycle, st_swap, wk_cycle, wk_swap, seen, flat4, levels, eqB, mixed3, mixed4}
-use Rattle.plane.proofs.SignTable.{rules, and_both, use_table, strip_claim, strip_table, below_claim, below_table, above_claim, above_table, same, same_is, no_or, not_true, not_not}
+use Rattle.plane.proofs.Signs.{St, Wk, weak, sure, tells, st_cycle, st_swap, wk_cycle, wk_swap, seen, flat4, levels}
+use Rattle.plane.proofs.SignTable.{rules, and_both, use_table, strip_claim, strip_table, below_claim, below_table, above_claim, above_table, same_is, no_or, not_true, not_not}
 
 -- ---- a sign read in the six orders
 module _ (p q r : Site) {b : Bool} (s : St b (det p q r)) where

@@ -1,6 +1,5 @@
-use Rattle.std.proofs.Common.{◌≡◌, ℕ, ◌+◌, ◌-◌, Ok, Err, Result, sym, ap, ◌∙◌, subst, arith}
+use Rattle.std.proofs.Common.{◌≡◌, ℕ, ◌+◌, ◌-◌, Err, sym, ap, ◌∙◌, subst, arith}
 use Rattle.std.proofs.lemmas.Result.{err_from_is_err_and}
-use Rattle.face.specs.declared.record.Record.{Record}
 use Rattle.face.specs.declared.packet.Packet.TheVariants.{Ended}
 use Rattle.face.specs.declared.packet.Refusal.{Refusal}
 use Rattle.face.specs.Hand.{open_told}

@@ -1,8 +1,3 @@
-use mathlib.Core.Path.{◌≡◌}
-use mathlib.Core.List.{List}
-use Prim.Native.Nat.{ℕ, ◌≤◌, ◌<◌}
-use lib.ListN.{length}
-use Rattle.orbit.specs.Walks.{In, Apart, steps, walk}
 use Rattle.orbit.proofs.Orbit.{Turning, size, size_bound, face_round, face_closed, front_apart}
 use Rattle.orbit.proofs.Darts.{Dart, dart_same}
 use native.Mathlib.Nat.{le_refl}

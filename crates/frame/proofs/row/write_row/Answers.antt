@@ -2,7 +2,6 @@ use Rattle.std.proofs.Common.{◌≡◌, ◌+◌, ◌*◌, ◌<◌, [], ◌∷�
 use Rattle.std.proofs.lemmas.List.{take_more, length-take-le}
 use Rattle.std.proofs.ByRecursion.{All-from_get_or}
 use Rattle.frame.specs.Digits.{spelled}
-use Rattle.frame.specs.Frames.{check}
 use Rattle.frame.proofs.Spelling.{spelled_more}
 use Rattle.frame.proofs.Writing.{short_buffer, long_buffer}
 use Rattle.frame.proofs.row.write_row.Goals as goal

@@ -1,4 +1,4 @@
-use Rattle.std.proofs.Common.{◌<◌, arith}
+use Rattle.std.proofs.Common.{arith}
 use Rattle.kept.proofs.Asking.{asked_some}
 use Rattle.kept.proofs.Blocking.{clear_at_first, clear_to_the_end, clear_no_more, clear_further}
 use Rattle.kept.proofs.view.is_blocked.Goals as goal

@@ -1,6 +1,5 @@
-use Rattle.std.proofs.Common.{◌≡◌, Some, sym, ap, rules}
+use Rattle.std.proofs.Common.{sym, ap, rules}
 use Rattle.floor.specs.declared.node.Node.{Node}
-use Rattle.floor.specs.Meaning.{radio}
 use Rattle.face.proofs.Hosts.{open_is, OpenedAs, opened_in_view}
 use Rattle.face.proofs.packet.Packet.open.Goals as goal
 

@@ -1,4 +1,4 @@
-use Rattle.std.proofs.Common.{◌≡◌, Bool, true, false, cond, ◌≢◌, Some, None, Option, sym, refl, ap, ◌∙◌, subst, arith}
+use Rattle.std.proofs.Common.{◌≡◌, Bool, true, false, cond, ◌≢◌, Some, Option, sym, refl, ap, ◌∙◌, subst, arith}
 use Rattle.kept.specs.Kept.{node_at}
 use Rattle.kept.specs.Bearings.{bearing}
 use Rattle.plane.specs.declared.Point.{Point}

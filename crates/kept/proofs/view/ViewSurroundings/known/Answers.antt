@@ -1,4 +1,4 @@
-use Rattle.std.proofs.Common.{◌≡◌, ℕ, Bool, true, false, cond, sym, ◌∙◌, arith}
+use Rattle.std.proofs.Common.{◌≡◌, ℕ, true, false, ◌∙◌, arith}
 use Rattle.kept.proofs.Rounding.{known_there, unknown_there, known_elsewhere}
 use Rattle.kept.proofs.view.ViewSurroundings.known.Goals as goal
 
