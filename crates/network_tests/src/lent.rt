@@ -25,7 +25,7 @@ fn check_filling(rt: &impl Abort, list: &mut LentList<'_, u8>) {
         assert_eq!(rt; refusal(list.append(x)), number);
         assert!(rt; list.free() == free);
     }
-    assert!(rt; list.as_slice() == &[7, 5]);
+    assert!(rt; list.as_slice() == [7, 5].as_slice());
 }
 
 #[test]
@@ -40,5 +40,5 @@ fn appends_nothing_to_no_memory(rt: HostRuntime) {
     let mut memory = [];
     let mut list = LentList::new(&mut memory);
     assert_eq!(rt; refusal(list.append(9)), Some(51));
-    assert!(rt; list.as_slice() == &[]);
+    assert!(rt; list.as_slice() == [].as_slice());
 }
