@@ -7,18 +7,21 @@ ghost use Rattle.face.specs.declared.record.Record.{Record};
 ghost use Rattle.delivery.specs.Law.{EveryRun};
 ghost use Rattle.delivery.specs.Run.{gone_on, run_answer, run_told, RunsRightly};
 
-use face::packet::{Held, Packet, Refusal, Unsent};
+use face::packet::{Packet, Refusal, Unsent};
 use face::record::Record;
 use floor::planariser::Planariser;
 use host::sides::Reading;
 
-// One send on, where the packet may go.
-fn go_on<R: Reading, P: Planariser>(held: Held, host: &R, planariser: &P) -> Packet
-    ensures { result ≡ gone_on (P.Planariser.blocking planariser.now) (R.Reading.meaning host.now) (Packet.Held held) }
+// One send on, where the packet is held and may go.
+fn go_on<R: Reading, P: Planariser>(packet: Packet, host: &R, planariser: &P) -> Packet
+    ensures { result ≡ gone_on (P.Planariser.blocking planariser.now) (R.Reading.meaning host.now) packet }
 {
-    match held.hop(host, planariser) {
-        Ok(next) => next,
-        Err(Unsent { why: _, held }) => Packet::Held(held),
+    match packet {
+        Packet::Held(held) => match held.hop(host, planariser) {
+            Ok(next) => next,
+            Err(Unsent { why: _, held }) => Packet::Held(held),
+        },
+        Packet::Ended(ended) => Packet::Ended(ended),
     }
 }
 
@@ -37,7 +40,7 @@ pub fn deliver<R: Reading, P: Planariser>(
     let mut packet = Packet::open(host, planariser, source, target)?;
     for _sent in 0..budget {
         packet = match packet {
-            Packet::Held(held) => go_on(held, host, planariser),
+            Packet::Held(held) => go_on(Packet::Held(held), host, planariser),
             Packet::Ended(ended) => return Ok(ended.file()),
         };
     }

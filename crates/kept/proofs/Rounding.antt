@@ -1,22 +1,23 @@
 -- The kept neighbours of a node, asked for one by one: the one of a number, and the first round the node
-use Rattle.std.proofs.Common.{◌≡◌, ℕ, suc, ◌+◌, ◌<◌, Bool, true, false, cond, not, ◌&&◌, eqb, leb, ◌≢◌, List, [], ◌∷◌, length, Some, None, Option, sym, refl, ap, ◌∙◌, subst, ap₂, inl, arith}
+use Rattle.std.proofs.Common.{◌≡◌, ℕ, zero, suc, ◌+◌, ◌<◌, ◌≤◌, Bool, true, false, cond, not, ◌&&◌, ◌||◌, eqb, leb, ◌≢◌, ◌⊎◌, List, [], ◌∷◌, length, Some, None, Option, sym, refl, ap, ◌∙◌, subst, ap₂, inl, inr, arith}
 use Rattle.std.proofs.lemmas.Bool.Decides.{nat_tests}
 use Rattle.plane.specs.declared.Point.{Point}
 use Rattle.plane.specs.Plane.{way}
 use Rattle.order.specs.declared.Sense.{Sense}
 use Rattle.order.specs.declared.Start.{Start}
 use Rattle.order.specs.Foremost.{held, foremost, offered}
-use Rattle.order.specs.Directions.{sooner, earlier}
+use Rattle.order.specs.Directions.{sooner, earlier, direction}
 use Rattle.order.proofs.Sooner.{points_sooner}
 use Rattle.floor.specs.declared.node.Node.{Node}
 use Rattle.floor.specs.declared.node.Radio.{Radio}
-use Rattle.floor.specs.Lists.{find, those}
-use Rattle.floor.specs.Meaning.{Meaning, Mapped, radio, neighbours, place_of}
+use Rattle.floor.specs.Lists.{differ, find, those}
+use Rattle.floor.specs.Meaning.{Meaning, Mapped, radio, neighbours, point_at, place_of}
 use Rattle.floor.specs.Planar.{Blocks}
 use Rattle.host.specs.Questions.{next_neighbour}
 use Rattle.kept.specs.declared.bearing.Bearing.{Bearing}
 use Rattle.kept.specs.Kept.{blocked, kept, first_round, node_at, node_or_origin}
-use Rattle.kept.specs.Bearings.{bearing, offered_unless}
+use Rattle.kept.specs.Laws.{Near}
+use Rattle.kept.specs.Bearings.{bearing}
 use Rattle.kept.proofs.Lists.{Has, those_has}
 use Rattle.kept.proofs.Near.{neighbours_has, serving_radio}
 use Rattle.kept.proofs.Asking.{Ascends, neighbours_ascend, left_from, asked_first, asked_none, asked_some}
@@ -137,17 +138,28 @@ module _ (b : Blocks) (m : Meaning) (i : ℕ) (sense : Sense) (start : Start) (t
   next_of j h w s f n t = f.so_far ∙ ap (λ (ns : List Node). onward (node_of h) (those clear ns)) (asked_some m i j w n).0
       ∙ ap (λ (s : Bool). onward (node_of h) (cond (not s) (w ∷ rest_after w) (rest_after w))) t
 
+  -- what a neighbour that is asked for gives: nothing where the link is blocked, else its bearing
+  abbrev pub offer_of : Node → Option Bearing
+  offer_of w = cond (blocked b p w (neighbours m i)) None (Some (bearing sense start p towards w))
+
+  -- a link that is not kept is passed over
+  pub foremost_past : (j : ℕ) (h : Option Bearing) (w : Node) (h' : Option Bearing) → ForemostTo j h → Some w ≡ next_neighbour m i j → None ≡ offer_of w → h' ≡ h → ForemostTo (w.number + 1) h'
+  foremost_past j h w h' f n t o = go (blocked b p w (neighbours m i)) refl t
+    where
+      go : (s : Bool) → blocked b p w (neighbours m i) ≡ s → None ≡ cond s None (Some (bearing sense start p towards w)) → ForemostTo (w.number + 1) h'
+      go true e r = subst (ForemostTo (w.number + 1)) (sym o) (record { so_far = next_of j h w true f n e; made = f.made })
+      go false e r = absurd (none_not r)
+        where
+          none_not : None ≡ Some (bearing sense start p towards w) → ⊥
+          none_not r = let z : ◌≡◌ {A = ℕ} 0 1 = cc in omega arith
+
   abbrev sooner_one : Bearing → Bearing → Bool
   sooner_one x y = earlier x.direction y.direction
 
-  -- a link that is not kept is passed over
-  foremost_past : (j : ℕ) (h : Option Bearing) (w : Node) → ForemostTo j h → Some w ≡ next_neighbour m i j → blocked b p w (neighbours m i) ≡ true → ForemostTo (w.number + 1) h
-  foremost_past j h w f n e = record { so_far = next_of j h w true f n e; made = f.made }
-
   -- a kept one is offered
-  foremost_offered : towards ≢ p → (j : ℕ) (h : Option Bearing) (w : Node) → ForemostTo j h → Some w ≡ next_neighbour m i j → blocked b p w (neighbours m i) ≡ false
-      → ForemostTo (w.number + 1) (offered sooner_one h (bearing sense start p towards w))
-  foremost_offered far j h w f n e = record { so_far = next_of j h w false f n e ∙ moved h f.made (rest_after w); made = made_by h f.made }
+  pub foremost_offered : towards ≢ p → (j : ℕ) (h : Option Bearing) (w : Node) (x : Bearing) (h' : Option Bearing) → ForemostTo j h → Some w ≡ next_neighbour m i j
+      → Some x ≡ offer_of w → h' ≡ offered sooner_one h x → ForemostTo (w.number + 1) h'
+  foremost_offered far j h w x h' f n t o = go (blocked b p w (neighbours m i)) refl t
     where
       given : Bearing
       given = bearing sense start p towards w
@@ -172,15 +184,15 @@ module _ (b : Blocks) (m : Meaning) (i : ℕ) (sense : Sense) (start : Start) (t
       made_by None k = refl
       made_by (Some y) k = chosen (earlier given.direction y.direction) y k
 
-  -- the next one, kept or not, as the keeper is offered it
-  pub foremost_met : towards ≢ p → (j : ℕ) (h : Option Bearing) (w : Node) (x : Bearing) (h' : Option Bearing) → ForemostTo j h → Some w ≡ next_neighbour m i j
-      → x ≡ bearing sense start p towards w → h' ≡ offered_unless (blocked b p w (neighbours m i)) h x → ForemostTo (w.number + 1) h'
-  foremost_met far j h w x h' f n e o =
-      subst (ForemostTo (w.number + 1)) (sym (o ∙ ap (offered_unless (blocked b p w (neighbours m i)) h) e)) (go (blocked b p w (neighbours m i)) refl)
-    where
-      go : (s : Bool) → blocked b p w (neighbours m i) ≡ s → ForemostTo (w.number + 1) (offered_unless s h (bearing sense start p towards w))
-      go true q = foremost_past j h w f n q
-      go false q = foremost_offered far j h w f n q
+      go : (s : Bool) → blocked b p w (neighbours m i) ≡ s → Some x ≡ cond s None (Some given) → ForemostTo (w.number + 1) h'
+      go true e r = absurd (some_not r)
+        where
+          some_not : Some x ≡ None → ⊥
+          some_not r = let z : ◌≡◌ {A = ℕ} 0 1 = cc in omega arith
+      go false e r =
+          let same_x : x ≡ given = cc in
+          subst (ForemostTo (w.number + 1)) (sym (o ∙ ap (offered sooner_one h) same_x))
+          (record { so_far = next_of j h w false f n e ∙ moved h f.made (rest_after w); made = made_by h f.made })
 
 -- the node itself, as the code has it
 pub number_at : (m : Meaning) (i : ℕ) → (node_at m i).number ≡ i
@@ -190,23 +202,15 @@ number_at m i = go (radio m i)
     go None = refl
     go (Some r) = refl
 
-abbrev Turned : Sense → Start → Point → Node → Option Bearing → Point → Type 0
-Turned sense start towards w r p = towards ≢ p → w.point ≢ p → r ≡ Some (bearing sense start p towards w)
+abbrev Offers : Blocks → Meaning → Sense → Start → Point → Node → Option Bearing → Node → ℕ → Type 0
+Offers b m sense start towards w r here i =
+    towards ≢ here.point → w.point ≢ here.point → r ≡ cond (blocked b here.point w (neighbours m i)) None (Some (bearing sense start here.point towards w))
 
--- the bearing that the code makes at the node itself
-pub turned_there : (m : Meaning) (i : ℕ) (sense : Sense) (start : Start) (towards : Point) (w here : Node) (r : Option Bearing) → here ≡ node_at m i
-    → Turned sense start towards w r here.point → towards ≢ (node_at m i).point → w.point ≢ (node_at m i).point
-    → r ≡ Some (bearing sense start (node_at m i).point towards w)
-turned_there m i sense start towards w here r e k = subst (λ (n : Node). Turned sense start towards w r n.point) e k
-
--- what the code offers at the node itself
-pub offered_there : (b : Blocks) (m : Meaning) (i : ℕ) (w here : Node) (h h' : Option Bearing) (x : Bearing) → here ≡ node_at m i → x.node ≡ w
-    → h' ≡ offered_unless (blocked b here.point x.node (neighbours m here.number)) h x
-    → h' ≡ offered_unless (blocked b (node_at m i).point w (neighbours m i)) h x
-offered_there b m i w here h h' x e n k =
-    subst (λ (j : ℕ). h' ≡ offered_unless (blocked b (node_at m i).point w (neighbours m j)) h x) (number_at m i)
-    (subst (λ (o : Node). h' ≡ offered_unless (blocked b o.point w (neighbours m o.number)) h x) e
-    (subst (λ (v : Node). h' ≡ offered_unless (blocked b here.point v (neighbours m here.number)) h x) n k))
+pub offered_there : (b : Blocks) (m : Meaning) (i : ℕ) (sense : Sense) (start : Start) (towards : Point) (w : Node) (r : Option Bearing) (here : Node)
+    → here ≡ node_at m i → Offers b m sense start towards w r here here.number → towards ≢ (node_at m i).point → w.point ≢ (node_at m i).point
+    → r ≡ offer_of b m i sense start towards w
+offered_there b m i sense start towards w r here e k far near =
+    subst (Offers b m sense start towards w r (node_at m i)) (number_at m i) (subst (λ (n : Node). Offers b m sense start towards w r n n.number) e k) far near
 
 pub known_there : (b : Blocks) (m : Meaning) (i j : ℕ) (w here : Node) (t : Bool) → here ≡ node_at m i
     → t ≡ (eqb w.number j && not (blocked b here.point w (neighbours m here.number))) → Some w ≡ next_neighbour m i j

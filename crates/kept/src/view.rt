@@ -1,8 +1,8 @@
-ghost use Rattle.std.specs.Prelude.{◌≡◌, Bool, not, ◌&&◌, ◌≢◌, Some, ◌==◌};
+ghost use Rattle.std.specs.Prelude.{◌≡◌, Bool, not, ◌&&◌, ◌≢◌, if◌then◌else◌, Some, None, ◌==◌};
 ghost use Rattle.floor.specs.Lists.{differ};
 ghost use Rattle.floor.specs.Meaning.{neighbours};
 ghost use Rattle.kept.specs.Kept.{blocked, kept, node_at};
-ghost use Rattle.kept.specs.Bearings.{bearing, offered_unless};
+ghost use Rattle.kept.specs.Bearings.{bearing};
 
 use crate::around::Surroundings;
 use crate::bearing::Bearing;
@@ -53,27 +53,23 @@ pub(crate) fn is_kept_as<R: Reading, P: Planariser>(
     v.number == number && !is_blocked(host, planariser, u, v)
 }
 
-// The bearing of neighbour `w` of a node at `here`, if it lies in a direction.
-fn bearing_of(here: Node, towards: Point, sense: Sense, start: Start, w: Node) -> Option<Bearing>
-    ensures { towards ≢ here.point → w.point ≢ here.point → result ≡ Some (bearing sense start here.point towards w) }
-{
-    let direction = Direction::new(here.point, towards, w.point, sense, start)?;
-    Some(Bearing { node: w, direction })
-}
-
-// Offers a keeper a neighbour of `here` if the link to it is kept, which is asked only where the offer would be taken.
-fn offer_kept<R: Reading, P: Planariser>(
-    keeper: &mut Keeper<Bearing>,
+// The bearing of neighbour `w` where the link to it is kept and it lies in a direction.
+fn kept_bearing<R: Reading, P: Planariser>(
     host: &R,
     planariser: &P,
     here: Node,
-    bearing: Bearing,
-)
-    ensures { keeper.new.held ≡ offered_unless (blocked (P.Planariser.blocking planariser.now) here.point bearing.node (neighbours (R.Reading.meaning host.now) here.number)) keeper.old.held bearing }
+    towards: Point,
+    sense: Sense,
+    start: Start,
+    w: Node,
+) -> Option<Bearing>
+    ensures { towards ≢ here.point → w.point ≢ here.point → result ≡ (if blocked (P.Planariser.blocking planariser.now) here.point w (neighbours (R.Reading.meaning host.now) here.number) then None else Some (bearing sense start here.point towards w)) }
 {
-    if keeper.would_take(&bearing) && !is_blocked(host, planariser, here, bearing.node) {
-        let _ = keeper.offer(bearing);
+    if is_blocked(host, planariser, here, w) {
+        return None;
     }
+    let direction = Direction::new(here.point, towards, w.point, sense, start)?;
+    Some(Bearing { node: w, direction })
 }
 
 /// A node of a host as it sees itself: its kept neighbours under a planariser.
@@ -132,8 +128,16 @@ impl<R: Reading, P: Planariser> Surroundings for View<'_, R, P> {
         let mut keeper = Keeper::new();
         let mut from = 0;
         while let Some(w) = self.host.next_neighbour(self.number, from) {
-            if let Some(bearing) = bearing_of(here, towards, sense, start, w) {
-                offer_kept(&mut keeper, self.host, self.planariser, here, bearing);
+            if let Some(bearing) = kept_bearing(
+                self.host,
+                self.planariser,
+                here,
+                towards,
+                sense,
+                start,
+                w,
+            ) {
+                let _ = keeper.offer(bearing);
             }
             from = w.number + 1;
         }
