@@ -10,7 +10,7 @@ from answers import answer, write_blocks
 from cases import further
 
 BATCH = 200
-PROGRAM = Path(__file__).resolve().parents[2] / "target" / "bin" / "evidence"
+PROGRAM = Path(__file__).resolve().parents[2] / "crates" / "cases" / "out" / "cases"
 
 
 def difference(block, answers, lines):

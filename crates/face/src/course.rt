@@ -2,7 +2,6 @@ ghost use Rattle.std.specs.Prelude.{◌≡◌, ◌<◌, Some};
 ghost use Rattle.order.specs.Places.{nearer};
 ghost use Rattle.face.specs.Packet.{more, new_round, better, best_after, counted, walking, is_link};
 ghost use Rattle.order.specs.Nearest;
-ghost use Rattle.std.proofs.Common.{rules};
 
 use crate::record::{Best, Course, Link, Phase};
 use order::Place;
@@ -21,7 +20,7 @@ impl Order for Best {
 
     ghost proper = { λ b. 0 < b.place.below };
 
-    ghost irreflexive = { Prim.search rules };
+    ghost irreflexive = { λ b. Nearest.never b.place };
 
     ghost transitive = { λ a b c. Nearest.transitive a.place b.place c.place };
 

@@ -1,7 +1,6 @@
 ghost use Rattle.std.specs.Prelude.{◌≡◌, Bool};
 ghost use Rattle.order.specs.Directions.{earlier};
 ghost use Rattle.order.specs.Turning as turning;
-ghost use Rattle.std.proofs.Common.{rules};
 
 use floor::node::Node;
 use order::direction::Direction;
@@ -20,7 +19,7 @@ impl Order for Bearing {
 
     ghost proper = { λ _. Unit {0} };
 
-    ghost irreflexive = { Prim.search rules };
+    ghost irreflexive = { λ a. turning.never a.direction };
 
     ghost transitive = { λ x y z a b c. turning.transitive x.direction y.direction z.direction };
 

@@ -4,7 +4,6 @@ ghost use Rattle.plane.specs.Plane.{way};
 ghost use Rattle.order.specs.Arcs.{ArcLaws};
 ghost use Rattle.order.specs.Directions.{direction, earlier, part};
 ghost use Rattle.order.specs.Turning;
-ghost use Rattle.std.proofs.Common.{rules};
 
 use crate::keeper::Order;
 use crate::{Sense, Start};
@@ -70,7 +69,7 @@ impl Order for Direction {
 
     ghost proper = { λ _. Unit {0} };
 
-    ghost irreflexive = { Prim.search rules };
+    ghost irreflexive = { Turning.never };
 
     ghost transitive = { λ d e f pd pe pf. Turning.transitive d e f };
 

@@ -5,7 +5,6 @@
 ghost use Rattle.std.specs.Prelude.{◌≡◌, ◌<◌};
 ghost use Rattle.order.specs.Places.{nearer};
 ghost use Rattle.order.specs.Nearest;
-ghost use Rattle.std.proofs.Common.{rules};
 
 use keeper::Order;
 
@@ -39,7 +38,7 @@ impl Order for Place {
 
     ghost proper = { λ p. 0 < p.below };
 
-    ghost irreflexive = { Prim.search rules };
+    ghost irreflexive = { Nearest.never };
 
     ghost transitive = { Nearest.transitive };
 
