@@ -76,15 +76,15 @@ module _ (b : Blocks) (h : Meaning) (l : ℕ) (low : ltb 15 l ≡ false) (s t : 
         }
 
     -- what a call on the line leaves, if it is no collection
-    abbrev Goes_on : Net × Answer → Type 0
-    Goes_on a = T (not (is_collection a.1)) → Alive a.0 (xs ++ sent_by a.1)
+    abbrev GoesOn : Net × Answer → Type 0
+    GoesOn a = T (not (is_collection a.1)) → Alive a.0 (xs ++ sent_by a.1)
 
-    by_hop : (o : Option Link) → now_is.hand ≡ o → Goes_on (hopped_on b n l now_is o)
+    by_hop : (o : Option Link) → now_is.hand ≡ o → GoesOn (hopped_on b n l now_is o)
     by_hop None hand = λ _. alive_none
     by_hop (Some j) hand = λ _. alive_send j hand
 
-    alive_hop : Goes_on (called b n (On l Hop))
-    alive_hop = subst Goes_on (sym (own_call b l low n now_is Hop A.held)) (by_hop now_is.hand refl)
+    alive_hop : GoesOn (called b n (On l Hop))
+    alive_hop = subst GoesOn (sym (own_call b l low n now_is Hop A.held)) (by_hop now_is.hand refl)
 
     alive_lone : (x : ℕ × ℕ) → answer b n (On l Hop) ≡ Hopped x → Alive (then b n (On l Hop)) (xs ++ x ∷ [])
     alive_lone x e = subst (λ (a : Answer). T (not (is_collection a)) → Alive (then b n (On l Hop)) (xs ++ sent_by a)) e alive_hop tt
@@ -103,14 +103,14 @@ module _ (b : Blocks) (h : Meaning) (l : ℕ) (low : ltb 15 l ≡ false) (s t : 
         subst (λ (x : Net). Alive x (xs ++ map send_of (trail b n.host most (now_is n xs A)))) H.same
         (alive_hops (trail b n.host most (now_is n xs A)) n xs A H.told)
 
-    by_call : (c : LineCall) → Goes_on n xs A (call_on b n l (Some (now_is n xs A)) c)
+    by_call : (c : LineCall) → GoesOn n xs A (call_on b n l (Some (now_is n xs A)) c)
     by_call (Open u v) = λ _. alive_none n xs A
     by_call Hop = by_hop n xs A (now_is n xs A).hand refl
-    by_call (Carry budget room) = cond_both (is_some (now_is n xs A).hand) _ _ (Goes_on n xs A) (λ _ _. alive_carry (min budget room)) (λ _ _. alive_none n xs A)
-    by_call Collect = cond_both (is_some (now_is n xs A).hand) _ _ (Goes_on n xs A) (λ _ _. alive_none n xs A) (λ _ never. absurd never)
+    by_call (Carry budget room) = cond_both (is_some (now_is n xs A).hand) _ _ (GoesOn n xs A) (λ _ _. alive_carry (min budget room)) (λ _ _. alive_none n xs A)
+    by_call Collect = cond_both (is_some (now_is n xs A).hand) _ _ (GoesOn n xs A) (λ _ _. alive_none n xs A) (λ _ never. absurd never)
 
-    own : (c : LineCall) → Goes_on n xs A (called b n (On l c))
-    own c = subst (Goes_on n xs A) (sym (own_call b l low n (now_is n xs A) c A.held)) (by_call c)
+    own : (c : LineCall) → GoesOn n xs A (called b n (On l c))
+    own c = subst (GoesOn n xs A) (sym (own_call b l low n (now_is n xs A) c A.held)) (by_call c)
 
     -- ---- any call
 
@@ -118,7 +118,7 @@ module _ (b : Blocks) (h : Meaning) (l : ℕ) (low : ltb 15 l ≡ false) (s t : 
     Lives c = T (not (cond (is_on l c) (is_collection (answer b n c)) false)) → Alive (then b n c) (xs ++ cond (is_on l c) (sent_by (answer b n c)) [])
 
     on_its_line : (k : ℕ) (c : LineCall) → k ≡ l → T (not (is_collection (answer b n (On k c)))) → Alive (then b n (On k c)) (xs ++ sent_by (answer b n (On k c)))
-    on_its_line k c e = subst (λ (x : ℕ). Goes_on n xs A (called b n (On x c))) (sym e) (own c)
+    on_its_line k c e = subst (λ (x : ℕ). GoesOn n xs A (called b n (On x c))) (sym e) (own c)
 
     on_a_line : (k : ℕ) (c : LineCall) (x : Bool) → eqb k l ≡ x
         → T (not (cond x (is_collection (answer b n (On k c))) false)) → Alive (then b n (On k c)) (xs ++ cond x (sent_by (answer b n (On k c))) [])
