@@ -109,9 +109,12 @@ def forward(record, graph):
 def receive(record, graph):
     """The record after its link in hand was sent along, worked out by the receiver over its own host."""
     holder, total = record.hand[1], record.total + 1
-    if holder == record.target:
+    there = holder < len(graph.points)
+    if there and holder == record.target:
         return replace(record, holder=holder, total=total, hand=None, end="delivered")
     try:
+        if not there:
+            raise Lost
         moved = replace(record, holder=holder, total=total)
         return round_send(moved, graph) if record.phase == "Round" else walk_send(moved, graph)
     except Lost:

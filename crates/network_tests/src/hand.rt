@@ -149,6 +149,9 @@ fn finds_no_such_node(rt: HostRuntime) -> Result<(), Fail> {
     let at_one = received(send(&host, &host, opened(&host)?))?;
     let lost = received(send(&host, &two, at_one))?;
     assert!(rt; is_ended(lost, 2, 2, End::Unreachable));
+    let before_last = walked(&rt, &host)?;
+    let at_target = received(send(&host, &two, before_last))?;
+    assert!(rt; is_ended(at_target, 3, 7, End::Unreachable));
     Ok(())
 }
 
