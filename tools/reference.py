@@ -707,8 +707,16 @@ def account():
 TABLE_HEAD = """\
 //! Random floors and what packets do on them, worked out by tools/reference.py. In a way node 0 is a, 1 is b, and so on.
 
+use face::record::End;
+
 /// A packet's source, target, end and receivers.
-pub type Way = (u8, u8, u8, &'static str);
+#[derive(Clone, Copy)]
+pub struct Way {
+    pub source: u8,
+    pub target: u8,
+    pub end: End,
+    pub receivers: &'static str,
+}
 
 /// What a planariser makes of a floor: how many links it keeps, and which ways packets go.
 #[derive(Clone, Copy)]
@@ -727,11 +735,52 @@ pub struct Sample {
     pub relative: Thinned,
 }
 
-/// A Gabriel packet on floor B that is sent some times, a node being withdrawn before its next send: its source and
-/// target, how often it was sent, the node, what forwarding is then refused with or 0, and the holder and the end where it
-/// was in the air already.
-pub type Stale = (u8, u8, u8, u8, u8, u8, u8);
+/// A Gabriel packet on floor B that is sent some times, a node being gone before its next send: what forwarding is then
+/// refused with, and the holder and the end where it was in the air already.
+#[derive(Clone, Copy)]
+pub struct Stale {
+    pub source: u8,
+    pub target: u8,
+    pub sends: u8,
+    pub gone: u8,
+    pub refused: Option<u8>,
+    pub holder: u8,
+    pub end: End,
+}
+
+// Ways in rows of source, target, end and receivers.
+macro_rules! ways {
+    ($(($source:literal, $target:literal, $end:ident, $receivers:literal)),* $(,)?) => {
+        &[$(Way {
+            source: $source,
+            target: $target,
+            end: End::$end,
+            receivers: $receivers,
+        }),*]
+    };
+}
+
+// Stale packets in rows of source, target, sends, the node gone, refusal, holder and end.
+macro_rules! stale {
+    ($((
+        $source:literal, $target:literal, $sends:literal, $gone:literal,
+        $refused:expr, $holder:literal, $end:ident
+    )),* $(,)?) => {
+        [$(Stale {
+            source: $source,
+            target: $target,
+            sends: $sends,
+            gone: $gone,
+            refused: $refused,
+            holder: $holder,
+            end: End::$end,
+        }),*]
+    };
+}
 """
+
+# the ends, as the crates name them
+VARIANTS = ["UnderWay", "Delivered", "Unreachable"]
 
 
 def random_host(rng, wide):
@@ -747,7 +796,7 @@ def way(host, blocks, s, t):
     """A row of the table."""
     packet, receivers = run(host, blocks, s, t)
     letters = "".join(chr(ord("a") + n) for n in receivers)
-    return f'({s}, {t}, {packet.end}, "{letters}")'
+    return f'({s}, {t}, {VARIANTS[packet.end]}, "{letters}")'
 
 
 def in_rows(rows, indent):
@@ -767,7 +816,7 @@ def tell_sample(rng, host):
     for name, blocks in (("gabriel", gabriel), ("relative", relative)):
         ways = in_rows([way(host, blocks, s, t) for s, t in pairs], 16)
         kept = len(kept_links(host, blocks))
-        print(f"        {name}: Thinned {{\n            kept: {kept},\n            ways: &[\n{ways}            ],\n        }},")
+        print(f"        {name}: Thinned {{\n            kept: {kept},\n            ways: ways![\n{ways}            ],\n        }},")
     print("    },")
 
 
@@ -782,9 +831,10 @@ def stale_rows(floor):
                 for _ in range(sends):
                     packet.hop(host, gabriel)
                 host.serving[node] = False
-                refusal = refusal_of(packet.forward, host, gabriel) or 0
+                refusal = refusal_of(packet.forward, host, gabriel)
+                refused = "None" if refusal is None else f"Some({refusal})"
                 packet.hop(host, gabriel)
-                yield (s, t, sends, node, refusal, packet.holder, packet.end)
+                yield f"({s}, {t}, {sends}, {node}, {refused}, {packet.holder}, {VARIANTS[packet.end]})"
 
 
 def table():
@@ -796,7 +846,7 @@ def table():
         tell_sample(rng, random_host(rng, i % 3 == 2))
     print("];")
     rows = rng.sample(list(stale_rows(FLOOR_B)), 40)
-    print(f"\n/// Packets that find a node gone.\npub const STALE: [Stale; {len(rows)}] = [\n{in_rows(rows, 4)}];")
+    print(f"\n/// Packets that find a node gone.\npub const STALE: [Stale; {len(rows)}] = stale![\n{in_rows(rows, 4)}];")
 
 
 def main(arguments):

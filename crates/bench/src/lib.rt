@@ -2,30 +2,25 @@
 
 #![tactic(auto)]
 
-use face::record::{End, Phase};
+use face::record::End;
 use floor::map::Map;
 use floor::planariser::Planariser;
 use floor::planariser::gabriel::Gabriel;
 use floor::planariser::relative::Relative;
+use floor::planariser::rule::Rule;
+use host::making::Making;
 use host::scan::ScanHost;
-use host::sides::{Reading, Switching};
+use host::sides::Switching;
 use host::table::TableHost;
 use network::list::LentList;
 use network::network::Network;
 use network::types::HopRecord;
 use plane::Point;
-use std::alloc::Global;
-
-// What a hop list is lent before there are hops.
-const NO_HOP: HopRecord = HopRecord {
-    sender: 0,
-    receiver: 0,
-    phase: Phase::Round,
-};
+use std::alloc::{AllocError, Global};
 
 /// What came of some packets.
 #[repr(C)]
-#[derive(Clone, Copy)]
+#[derive(Clone, Copy, PartialEq, Eq, Debug, Default)]
 pub struct Sums {
     /// How many were delivered.
     pub delivered: u64,
@@ -34,12 +29,6 @@ pub struct Sums {
     /// A number that every receiver, in its place, has its part in.
     pub mixed: u64,
 }
-
-const NOTHING: Sums = Sums {
-    delivered: 0,
-    sends: 0,
-    mixed: 0,
-};
 
 impl Sums {
     // One send more.
@@ -52,15 +41,13 @@ impl Sums {
     }
 }
 
-// The map of some points, those that can be placed.
-fn map_of(heap: Global, xs: &[u16], ys: &[u16]) -> Option<Map> {
-    let Ok(mut map) = Map::new(heap) else {
-        return None;
-    };
+// The map of some points, those that can be placed. Their coordinates come in two arrays, as the C interface passes them.
+fn map_of(heap: Global, xs: &[u16], ys: &[u16]) -> Result<Map, AllocError> {
+    let mut map = Map::new(heap)?;
     for (x, y) in xs.iter().zip(ys) {
         let _ = map.place(Point { x: *x, y: *y });
     }
-    Some(map)
+    Ok(map)
 }
 
 // Runs one packet to its end on line 0.
@@ -70,7 +57,7 @@ fn run<H: Switching, P: Planariser>(
     target: u8,
     sums: &mut Sums,
 ) {
-    let mut memory = [NO_HOP; 558];
+    let mut memory = [HopRecord::default(); 558];
     let mut list = LentList::new(&mut memory);
     let _ = network.open(0, source, target);
     let _ = network.carry(0, u16::MAX, &mut list);
@@ -86,7 +73,7 @@ fn run<H: Switching, P: Planariser>(
 fn pairs<H: Switching + Drop, P: Planariser + Drop>(host: H, planariser: P, times: u32) -> Sums {
     let nodes = host.count();
     let mut network = Network::new(host, planariser);
-    let mut sums = NOTHING;
+    let mut sums = Sums::default();
     for _ in 0..times {
         for source in 0..nodes {
             for target in 0..nodes {
@@ -99,13 +86,13 @@ fn pairs<H: Switching + Drop, P: Planariser + Drop>(host: H, planariser: P, time
     sums
 }
 
-// The same, by the planariser's number.
-fn thinned<H: Switching + Drop>(host: H, planariser: u8, times: u32) -> Sums {
-    match planariser {
-        1 => pairs(host, Gabriel, times),
-        2 => pairs(host, Relative, times),
-        _ => NOTHING,
-    }
+// The same over one kind of host; none where no host is made. Each planariser is a type here: picked once, not asked about at every link.
+fn pairs_over<H: Making + Drop>(map: Map, reach: u16, rule: Rule, times: u32) -> Option<Sums> {
+    let host = H::make(map, reach).ok()?;
+    Some(match rule {
+        Rule::Gabriel => pairs(host, Gabriel, times),
+        Rule::Relative => pairs(host, Relative, times),
+    })
 }
 
 /// Runs a packet for every ordered pair of different nodes, so many times over: planariser 1 keeps the Gabriel graph, 2 the
@@ -120,18 +107,13 @@ pub extern "C" fn kalzhuna_pairs(
     host: u8,
     times: u32,
 ) -> Sums {
-    let Some(map) = map_of(heap, xs, ys) else {
-        return NOTHING;
+    let (Ok(map), Ok(rule)) = (map_of(heap, xs, ys), Rule::try_from(planariser)) else {
+        return Sums::default();
     };
-    match host {
-        1 => match ScanHost::make(map, reach) {
-            Ok(host) => thinned(host, planariser, times),
-            Err(_) => NOTHING,
-        },
-        2 => match TableHost::make(map, reach) {
-            Ok(host) => thinned(host, planariser, times),
-            Err(_) => NOTHING,
-        },
-        _ => NOTHING,
-    }
+    let sums = match host {
+        1 => pairs_over::<ScanHost>(map, reach, rule, times),
+        2 => pairs_over::<TableHost>(map, reach, rule, times),
+        _ => None,
+    };
+    sums.unwrap_or_default()
 }

@@ -1,9 +1,9 @@
 //! The calls of a case.
-use crate::words::{large, small};
+use crate::words::number;
 use std::str::SplitWhitespace;
 
 /// A packet in the hand that is sent on so many times.
-#[derive(Clone, Copy)]
+#[derive(Clone, Copy, PartialEq, Eq, Debug)]
 pub struct Errand {
     pub source: u8,
     pub target: u8,
@@ -12,7 +12,7 @@ pub struct Errand {
 
 /// What is asked of a floor: the six calls of a network, a packet from its opening to its collection on line 0, and two
 /// questions about a packet in the hand.
-#[derive(Clone, Copy)]
+#[derive(Clone, Copy, PartialEq, Eq, Debug)]
 pub enum Call {
     Open { line: u8, source: u8, target: u8 },
     Hop { line: u8 },
@@ -27,56 +27,51 @@ pub enum Call {
     Gone(Errand, u8),
 }
 
-// The packet of three numbers.
-fn read_errand(words: &mut SplitWhitespace<'_>) -> Option<Errand> {
-    Some(Errand {
-        source: small(words)?,
-        target: small(words)?,
-        sends: large(words)?,
-    })
-}
-
-// The call of a network of that name, with its numbers.
-fn of_network(name: &str, words: &mut SplitWhitespace<'_>) -> Option<Call> {
-    match name {
-        "open" => Some(Call::Open {
-            line: small(words)?,
-            source: small(words)?,
-            target: small(words)?,
-        }),
-        "hop" => Some(Call::Hop {
-            line: small(words)?,
-        }),
-        "carry" => Some(Call::Carry {
-            line: small(words)?,
-            budget: large(words)?,
-            room: small(words)?,
-        }),
-        "collect" => Some(Call::Collect {
-            line: small(words)?,
-        }),
-        "withdraw" => Some(Call::Withdraw {
-            node: small(words)?,
-        }),
-        "return" => Some(Call::Return {
-            node: small(words)?,
-        }),
-        _ => None,
+impl Errand {
+    // The packet of three numbers.
+    fn read(words: &mut SplitWhitespace<'_>) -> Option<Errand> {
+        Some(Errand {
+            source: number(words)?,
+            target: number(words)?,
+            sends: number(words)?,
+        })
     }
 }
 
 impl Call {
     /// The call that a line names, with its numbers.
     pub fn read(line: &str) -> Option<Call> {
-        let mut words = line.split_whitespace();
-        match words.next()? {
-            "packet" => Some(Call::Packet {
-                source: small(&mut words)?,
-                target: small(&mut words)?,
-            }),
-            "record" => Some(Call::Record(read_errand(&mut words)?)),
-            "gone" => Some(Call::Gone(read_errand(&mut words)?, small(&mut words)?)),
-            name => of_network(name, &mut words),
-        }
+        let words = &mut line.split_whitespace();
+        Some(match words.next()? {
+            "open" => Call::Open {
+                line: number(words)?,
+                source: number(words)?,
+                target: number(words)?,
+            },
+            "hop" => Call::Hop {
+                line: number(words)?,
+            },
+            "carry" => Call::Carry {
+                line: number(words)?,
+                budget: number(words)?,
+                room: number(words)?,
+            },
+            "collect" => Call::Collect {
+                line: number(words)?,
+            },
+            "withdraw" => Call::Withdraw {
+                node: number(words)?,
+            },
+            "return" => Call::Return {
+                node: number(words)?,
+            },
+            "packet" => Call::Packet {
+                source: number(words)?,
+                target: number(words)?,
+            },
+            "record" => Call::Record(Errand::read(words)?),
+            "gone" => Call::Gone(Errand::read(words)?, number(words)?),
+            _ => return None,
+        })
     }
 }

@@ -33,10 +33,7 @@ pub fn tell(rt: &impl Print, lines: &str) -> anyhow::Result<()> {
             Err(FrameFault::Line(LineFault::NotDigit { at })) => println!(rt;
                 "refused 11 at {at}"
             )?,
-            Err(fault) => {
-                let number = fault.number();
-                println!(rt; "refused {number}")?;
-            }
+            Err(fault) => println!(rt; "refused {}", u8::from(fault))?,
         }
     }
     Ok(())

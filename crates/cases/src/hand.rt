@@ -1,166 +1,137 @@
-//! Packets in the hand, over one host and from one to another.
+//! Packets in the hand, over one kept graph and from one to another.
+use crate::answers::{end_word, tell_refusal};
 use crate::call::Errand;
 use face::packet::{Packet, Refusal, Unsent};
-use face::record::{Best, End, Link, Phase, Record};
+use face::record::{Best, Link, Record};
 use floor::planariser::Planariser;
 use host::sides::Reading;
+use kept::links::KeptGraph;
+use order::Place;
 use std::{fmt, io};
 
-/// How a packet stands, in a word.
-pub fn end_word(end: End) -> &'static str {
-    match end {
-        End::UnderWay => "underway",
-        End::Delivered => "delivered",
-        End::Unreachable => "unreachable",
-    }
-}
-
-/// A phase, in a word.
-pub fn phase_word(phase: Phase) -> &'static str {
-    match phase {
-        Phase::Round => "Round",
-        Phase::Ahead => "Ahead",
-        Phase::Back => "Back",
-    }
-}
-
-// A link, or a dash where there is none.
+// What there is, or a dash.
 #[derive(Clone, Copy)]
-struct LinkText(Option<Link>);
+struct OrDash<T>(Option<T>);
+
+impl<T: fmt::Display> fmt::Display for OrDash<T> {
+    fn fmt<W: fmt::Write>(&self, f: &mut fmt::Formatter<W>) -> fmt::Result {
+        match &self.0 {
+            Some(x) => write!(f, "{x}"),
+            None => write!(f, "-"),
+        }
+    }
+}
+
+// A link, from its one end to its other.
+#[derive(Clone, Copy)]
+struct LinkText(Link);
 
 impl fmt::Display for LinkText {
     fn fmt<W: fmt::Write>(&self, f: &mut fmt::Formatter<W>) -> fmt::Result {
-        let Some(link) = self.0 else {
-            return write!(f, "-");
-        };
-        let (u, v) = (link.from, link.to);
-        write!(f, "{u}>{v}")
+        write!(f, "{}>{}", self.0.from, self.0.to)
     }
 }
 
-// The best crossing, or a dash where there is none.
+// A place, as a fraction.
 #[derive(Clone, Copy)]
-struct BestText(Option<Best>);
+struct PlaceText(Place);
+
+impl fmt::Display for PlaceText {
+    fn fmt<W: fmt::Write>(&self, f: &mut fmt::Formatter<W>) -> fmt::Result {
+        write!(f, "{}/{}", self.0.above, self.0.below)
+    }
+}
+
+// A best crossing, with a star where it is marked.
+#[derive(Clone, Copy)]
+struct BestText(Best);
 
 impl fmt::Display for BestText {
     fn fmt<W: fmt::Write>(&self, f: &mut fmt::Formatter<W>) -> fmt::Result {
-        let Some(best) = self.0 else {
-            return write!(f, "-");
-        };
-        let (u, v, index) = (best.link.from, best.link.to, best.index);
-        let (above, below) = (best.place.above, best.place.below);
+        let best = self.0;
+        let (link, place) = (LinkText(best.link), PlaceText(best.place));
         let mark = if best.marked { "*" } else { "" };
-        write!(f, "{u}>{v}@{index}:{above}/{below}{mark}")
+        write!(f, "{link}@{}:{place}{mark}", best.index)
     }
 }
 
 // Tells all that a packet carries but its source and its target.
 fn tell_record(rt: &impl Print, record: Record) -> io::Result<()> {
-    let (holder, hand) = (record.holder, LinkText(record.hand));
     let course = record.course;
-    let (phase, first) = (phase_word(course.phase), LinkText(course.first));
-    let (sends, above, below) = (course.sends, course.entry.above, course.entry.below);
-    let (best, walk) = (BestText(course.best), course.walk);
-    let (total, end) = (record.total, end_word(record.end));
     println!(rt;
-        "{holder} {hand} {phase} {first} {sends} {above}/{below} {best} {walk} {total} {end}"
+        "{} {} {} {} {} {} {} {} {} {}",
+        record.holder,
+        OrDash(record.hand.map(LinkText)),
+        course.phase,
+        OrDash(course.first.map(LinkText)),
+        course.sends,
+        PlaceText(course.entry),
+        OrDash(course.best.map(BestText)),
+        course.walk,
+        record.total,
+        end_word(record.end)
     )
 }
 
-// The record after a send that leaves over one host and is received over another; as it was where the send is refused.
-fn across<'a, R: Reading, S: Reading, P: Planariser>(
-    before: &'a R,
-    after: &'a S,
-    planariser: &'a P,
+// The record of a packet after a send that leaves over one graph and is received over another: as it was where it has ended.
+fn sent<R: Reading, P: Planariser>(
+    before: KeptGraph<'_, R, P>,
+    after: KeptGraph<'_, R, P>,
     record: Record,
-) -> Record {
+) -> Result<Record, Refusal> {
     match Packet::take_up(record) {
-        Packet::Held(held) => match held.forward(before, planariser) {
-            Ok(flight) => flight.receive(after, planariser).put_by(),
-            Err(Unsent { why: _, held }) => held.set_aside(),
+        Packet::Held(held) => match held.forward(before) {
+            Ok(flight) => Ok(flight.receive(after).put_by()),
+            Err(Unsent { why, held }) => {
+                held.set_aside();
+                Err(why)
+            }
         },
-        Packet::Ended(ended) => ended.file(),
+        Packet::Ended(ended) => Ok(ended.file()),
     }
 }
 
-// The record of a packet that is opened over a host and sent on so many times, or to its end.
-fn sent_on<'a, R: Reading, P: Planariser>(
-    host: &'a R,
-    planariser: &'a P,
+// The record of a packet that is opened over a graph and sent on so many times, or as far as it can be.
+fn sent_on<R: Reading, P: Planariser>(
+    graph: KeptGraph<'_, R, P>,
     errand: Errand,
 ) -> Result<Record, Refusal> {
-    let packet = Packet::open(host, planariser, errand.source, errand.target)?;
-    let mut record = packet.put_by();
+    let mut record = Packet::open(graph, errand.source, errand.target)?.put_by();
     for _ in 0..errand.sends {
-        record = across(host, host, planariser, record);
+        record = sent(graph, graph, record).unwrap_or(record);
     }
     Ok(record)
 }
 
-// What forwarding the packet of a record is refused with.
-fn refusal<'a, R: Reading, P: Planariser>(
-    host: &'a R,
-    planariser: &'a P,
-    record: Record,
-) -> Option<Refusal> {
-    match Packet::take_up(record) {
-        Packet::Held(held) => match held.forward(host, planariser) {
-            Ok(flight) => {
-                flight.receive(host, planariser).put_by();
-                None
-            }
-            Err(Unsent { why, held }) => {
-                held.set_aside();
-                Some(why)
-            }
-        },
-        Packet::Ended(ended) => {
-            ended.file();
-            None
-        }
-    }
-}
-
 /// Tells the record of a packet.
-pub fn tell_carried<'a, R: Reading, P: Planariser>(
+pub fn tell_carried<R: Reading, P: Planariser>(
     rt: &impl Print,
-    host: &'a R,
-    planariser: &'a P,
+    graph: KeptGraph<'_, R, P>,
     errand: Errand,
 ) -> io::Result<()> {
-    match sent_on(host, planariser, errand) {
+    match sent_on(graph, errand) {
         Ok(record) => tell_record(rt, record),
-        Err(refusal) => {
-            let number = refusal.number();
-            println!(rt; "refused {number}")
-        }
+        Err(refusal) => tell_refusal(rt, refusal),
     }
 }
 
-/// Tells what a packet's next send is answered over a changed host, and its record where it is received over that one.
-pub fn tell_gone<'a, R: Reading, P: Planariser>(
+/// Tells what a packet's next send is answered over a changed graph, and its record where it is received over that one.
+pub fn tell_gone<R: Reading, P: Planariser>(
     rt: &impl Print,
-    host: &'a R,
-    changed: &'a R,
-    planariser: &'a P,
+    graph: KeptGraph<'_, R, P>,
+    changed: KeptGraph<'_, R, P>,
     errand: Errand,
 ) -> io::Result<()> {
-    let record = match sent_on(host, planariser, errand) {
+    let record = match sent_on(graph, errand) {
         Ok(record) => record,
-        Err(refusal) => {
-            let number = refusal.number();
-            return println!(rt; "refused {number}");
-        }
+        Err(refusal) => return tell_refusal(rt, refusal),
     };
     if record.hand.is_none() {
         return println!(rt; "ended");
     }
-    match refusal(changed, planariser, record) {
-        None => print!(rt; "sent ")?,
-        Some(why) => {
-            let number = why.number();
-            print!(rt; "refused {number} ")?;
-        }
+    match sent(changed, changed, record) {
+        Ok(_) => print!(rt; "sent ")?,
+        Err(refusal) => print!(rt; "refused {} ", u8::from(refusal))?,
     }
-    tell_record(rt, across(host, changed, planariser, record))
+    tell_record(rt, sent(graph, changed, record).unwrap_or(record))
 }

@@ -2,9 +2,10 @@
 
 #![tactic(auto)]
 
-use anyhow::anyhow;
+use anyhow::bail;
 use std::io;
 
+mod answers;
 mod call;
 mod floors;
 mod frames;
@@ -14,27 +15,20 @@ mod words;
 
 // Tells what comes of one block of lines, by the kind that its first line names.
 fn tell_block(rt: &(impl Print + AllocGlobal), block: &str) -> anyhow::Result<()> {
-    let (head, rest) = match block.split_once('\n') {
-        Some(parts) => parts,
-        None => (block, ""),
-    };
+    let (head, rest) = block.split_once('\n').unwrap_or((block, ""));
     match head.split_once(' ') {
         Some(("floor", floor)) => floors::tell(rt, floor, rest),
         None if head == "map" => maps::tell(rt, rest),
         None if head == "lines" => frames::tell(rt, rest),
-        _ => Err(anyhow!("no such case")),
+        _ => bail!("no such case"),
     }
 }
 
 // Tells what comes of every block that standard input holds.
-fn run(rt: &HostRuntime) -> anyhow::Result<()> {
+fn main(rt: HostRuntime) -> anyhow::Result<()> {
     let text = io::read_to_string(rt.alloc(), rt.stdin())?;
     for block in text.as_str().split("\n\n") {
-        tell_block(rt, block)?;
+        tell_block(&rt, block)?;
     }
     Ok(())
-}
-
-fn main(rt: HostRuntime) -> anyhow::Result<()> {
-    run(&rt)
 }

@@ -2,16 +2,14 @@
 use floor::map::Map;
 use plane::Point;
 use std::alloc::{AllocError, Global};
-use std::str::SplitWhitespace;
+use std::str::{FromStr, SplitWhitespace};
 
-/// The next word as a number of one byte.
-pub fn small(words: &mut SplitWhitespace<'_>) -> Option<u8> {
-    words.next()?.parse::<u8>().ok()
-}
-
-/// The next word as a number of two bytes.
-pub fn large(words: &mut SplitWhitespace<'_>) -> Option<u16> {
-    words.next()?.parse::<u16>().ok()
+/// The next word as a number.
+pub fn number<T: FromStr>(words: &mut SplitWhitespace<'_>) -> Option<T>
+where
+    T::Err: Drop,
+{
+    words.next()?.parse::<T>().ok()
 }
 
 /// The point of two numbers with that mark between them.
@@ -26,10 +24,9 @@ pub fn point(text: &str, between: char) -> Option<Point> {
 /// The map of some points; one that cannot be placed is left out.
 pub fn map_of(heap: Global, points: &str) -> Result<Map, AllocError> {
     let mut map = Map::new(heap)?;
-    for word in points.split_whitespace() {
-        if let Some(p) = point(word, ',') {
-            let _ = map.place(p);
-        }
+    let words = points.split_whitespace();
+    for p in words.filter_map(|word| point(word, ',')) {
+        let _ = map.place(p);
     }
     Ok(map)
 }

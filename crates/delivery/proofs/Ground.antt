@@ -7,7 +7,7 @@ use Rattle.order.specs.declared.Sense.TheVariants.{Clockwise, Counter}
 use Rattle.order.specs.declared.Start.TheVariants.{NoTurn, FullTurn}
 use Rattle.order.specs.Places.{nearer}
 use Rattle.floor.specs.declared.node.Node.{Node}
-use Rattle.floor.specs.Lists.{find}
+use Rattle.std.specs.List.{find}
 use Rattle.floor.specs.Meaning.{Meaning, point_at, neighbours, node, is_among, Joined}
 use Rattle.floor.specs.Planar.{Blocks}
 use Rattle.kept.specs.Kept.{kept, kept_neighbours, kept_links, first_round}

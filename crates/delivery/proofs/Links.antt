@@ -3,7 +3,8 @@ use Rattle.std.proofs.Common.{◌≡◌, ℕ, zero, suc, ◌+◌, ◌<◌, ◌�
 use native.Mathlib.Decide.{dec_le, ℕ_discrete}
 use Rattle.floor.specs.declared.node.Node.{Node}
 use Rattle.floor.specs.declared.node.Radio.{Radio}
-use Rattle.floor.specs.Lists.{differ, those}
+use Rattle.std.specs.List.{filter}
+use Rattle.floor.specs.Lists.{differ}
 use Rattle.floor.specs.Meaning.{Meaning, Serving, radio, heard, heard_by, hear, is_among}
 use Rattle.floor.specs.Planar.{Blocks, Lawful}
 use Rattle.kept.specs.Kept.{kept_of, kept_neighbours, kept_from, kept_links, blocked}
@@ -90,13 +91,13 @@ rising_heard reach i p j (q ∷ qs) = go (differ i j && hear reach p q) (rising_
     go true r = (omega arith, r)
     go false r = rising_weaker j (suc j) (omega arith) (heard reach i p (suc j) qs) r
 
-rising_those : (test : Node → Bool) (j : ℕ) (xs : List Node) → Rising j xs → Rising j (those test xs)
+rising_those : (test : Node → Bool) (j : ℕ) (xs : List Node) → Rising j xs → Rising j (filter test xs)
 rising_those test j [] r = tt
 rising_those test j (x ∷ xs) (h, r) = go (test x) (rising_those test (suc x.number) xs r)
   where
-    go : (t : Bool) → Rising (suc x.number) (those test xs) → Rising j (cond t (x ∷ those test xs) (those test xs))
+    go : (t : Bool) → Rising (suc x.number) (filter test xs) → Rising j (cond t (x ∷ filter test xs) (filter test xs))
     go true r = (h, r)
-    go false r = rising_weaker j (suc x.number) (omega arith) (those test xs) r
+    go false r = rising_weaker j (suc x.number) (omega arith) (filter test xs) r
 
 rising_kept : (b : Blocks) (m : Meaning) (i : ℕ) → Rising 0 (kept_neighbours b m i)
 rising_kept b m i = go (radio m i)
@@ -126,7 +127,7 @@ count_rising j n (x ∷ xs) (h, r) small =
 -- ---- the links of all radios
 module _ (b : Blocks) (m : Meaning) where
   abbrev higher : ℕ → List Node
-  higher i = those (λ (v : Node). ltb i v.number) (kept_neighbours b m i)
+  higher i = filter (λ (v : Node). ltb i v.number) (kept_neighbours b m i)
 
   among_higher : (i j : ℕ) → is_among (higher i) j ≡ (ltb i j && keeps b m i j)
   among_higher i j = alike there back

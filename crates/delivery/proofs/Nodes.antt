@@ -6,7 +6,8 @@ use Rattle.plane.proofs.Sites as sites
 use Rattle.plane.proofs.General.{Off}
 use Rattle.floor.specs.declared.node.Node.{Node}
 use Rattle.floor.specs.declared.node.Radio.{Radio}
-use Rattle.floor.specs.Lists.{differ, nth, find}
+use Rattle.std.specs.List.{slice_get, find}
+use Rattle.floor.specs.Lists.{differ}
 use Rattle.floor.specs.Meaning.{Meaning, Serving, Joined, radio, place_of, serving_at, serving_place, heard_by, known_as, node}
 use Rattle.floor.specs.Planar.{Blocks, Lawful}
 use Rattle.kept.specs.Kept.{kept, kept_of, kept_neighbours}
@@ -53,7 +54,7 @@ module _ (m : Meaning) where
   pub on_small : (i : ℕ) → serving m i ≡ true → i < size_of m
   on_small i h = go m.nodes i h
     where
-      go : (rs : List Radio) (i : ℕ) → serves (nth rs i) ≡ true → i < length rs
+      go : (rs : List Radio) (i : ℕ) → serves (slice_get rs i) ≡ true → i < length rs
       go [] i e = absurd (true≢false (sym e))
       go (r ∷ rs) zero e = omega arith
       go (r ∷ rs) (suc i) e = let h : i < length rs = go rs i e in omega arith

@@ -13,7 +13,7 @@ use Rattle.delivery.specs.Law.{after_sends, serving, EndsRightly}
 
 -- one send on, where the packet is held and may go
 abbrev pub gone_on : Blocks → Meaning → Packet → Packet
-gone_on b m (Held h) = cond (may_go (kept_neighbours b m h.carried.holder) h.carried) (in_hand (send b m h.carried)) (Held h)
+gone_on b m (Held h) = cond (may_go (kept_neighbours b m h.token.carried.holder) h.token.carried) (in_hand (send b m h.token.carried)) (Held h)
 gone_on b m (Ended e) = Ended e
 
 abbrev pub run_if : Blocks → Meaning → ℕ → Bool → Option Record → Result Record ℕ

@@ -11,13 +11,14 @@ use face::packet::{Packet, Refusal, Unsent};
 use face::record::Record;
 use floor::planariser::Planariser;
 use host::sides::Reading;
+use kept::links::KeptGraph;
 
 // One send on, where the packet is held and may go.
-fn go_on<R: Reading, P: Planariser>(packet: Packet, host: &R, planariser: &P) -> Packet
-    ensures { result ≡ gone_on (P.Planariser.blocking planariser.now) (R.Reading.meaning host.now) packet }
+fn go_on<R: Reading, P: Planariser>(packet: Packet, graph: KeptGraph<'_, R, P>) -> Packet
+    ensures { result ≡ gone_on (P.Planariser.blocking graph.entry.planariser.now) (R.Reading.meaning graph.entry.host.now) packet }
 {
     match packet {
-        Packet::Held(held) => match held.hop(host, planariser) {
+        Packet::Held(held) => match held.hop(graph) {
             Ok(next) => next,
             Err(Unsent { why: _, held }) => Packet::Held(held),
         },
@@ -27,20 +28,19 @@ fn go_on<R: Reading, P: Planariser>(packet: Packet, host: &R, planariser: &P) ->
 
 /// Runs a packet from `source` to `target` to its end, or through `budget` sends; three for each kept link suffice.
 pub fn deliver<R: Reading, P: Planariser>(
-    host: &R,
-    planariser: &P,
+    graph: KeptGraph<'_, R, P>,
     source: u8,
     target: u8,
     budget: u16,
 ) -> Result<Record, Refusal>
-    ensures answer { run_told result ≡ run_answer (P.Planariser.blocking planariser.now) (R.Reading.meaning host.now) source target budget }
-    ensures rightly { (d : Record) → result ≡ Ok d → RunsRightly (P.Planariser.blocking planariser.now) (R.Reading.meaning host.now) source target budget d }
+    ensures answer { run_told result ≡ run_answer (P.Planariser.blocking graph.entry.planariser.now) (R.Reading.meaning graph.entry.host.now) source target budget }
+    ensures rightly { (d : Record) → result ≡ Ok d → RunsRightly (P.Planariser.blocking graph.entry.planariser.now) (R.Reading.meaning graph.entry.host.now) source target budget d }
     ensures always { EveryRun }
 {
-    let mut packet = Packet::open(host, planariser, source, target)?;
+    let mut packet = Packet::open(graph, source, target)?;
     for _sent in 0..budget {
         packet = match packet {
-            Packet::Held(held) => go_on(Packet::Held(held), host, planariser),
+            Packet::Held(held) => go_on(Packet::Held(held), graph),
             Packet::Ended(ended) => return Ok(ended.file()),
         };
     }

@@ -8,53 +8,31 @@ mod table;
 #[cfg(test)]
 mod tests {
     use crate::table::{SAMPLES, STALE, Sample, Stale, Thinned, Way};
-    use face::packet::{Packet, Unsent};
-    use face::record::{Phase, Record};
-    use floor::map::Map;
+    use face::packet::{Packet, Refusal, Unsent};
+    use face::record::Record;
     use floor::planariser::Planariser;
     use floor::planariser::gabriel::Gabriel;
     use floor::planariser::relative::Relative;
+    use host::making::Making;
     use host::scan::ScanHost;
     use host::sides::{Reading, Switching};
     use host::table::TableHost;
-    use kept::links::kept_links;
+    use kept::links::KeptGraph;
     use network::list::LentList;
     use network::network::Network;
     use network::types::HopRecord;
-    use plane::Point;
     use std::alloc::Global;
     use std::process::Abort;
     use std::test::Fail;
-
-    // What a hop list is lent before there are hops.
-    const NO_HOP: HopRecord = HopRecord {
-        sender: 0,
-        receiver: 0,
-        phase: Phase::Round,
-    };
-
-    // The points of the floor on which packets find a node gone, and its reach.
-    const TAIL: [(u16, u16); 4] = [(0, 5), (6, 2), (6, 9), (13, 7)];
-
-    const TAIL_REACH: u16 = 8;
-
-    // The map of some points, all of which can be placed.
-    fn map_of(rt: &impl Abort, heap: Global, points: &[(u16, u16)]) -> Result<Map, Fail> {
-        let mut map = Map::new(heap)?;
-        for (x, y) in points {
-            assert!(rt; map.place(Point { x: *x, y: *y }).is_ok());
-        }
-        Ok(map)
-    }
+    use worked::{Floor, NoHost, TAIL};
 
     // Whether hops go to the nodes of a way.
     fn follow(hops: &[HopRecord], letters: &str) -> bool {
-        for (hop, letter) in hops.iter().zip(letters.as_bytes()) {
-            if hop.receiver != letter.wrapping_sub(b'a') {
-                return false;
-            }
-        }
-        hops.len() == letters.len()
+        let receivers = letters
+            .as_bytes()
+            .iter()
+            .map(|letter| letter.wrapping_sub(b'a'));
+        hops.iter().map(|hop| hop.receiver).eq(receivers)
     }
 
     // One packet of a network goes its way.
@@ -62,167 +40,128 @@ mod tests {
         rt: &impl Abort,
         network: &mut Network<S, P>,
         way: Way,
-    ) -> Result<(), Fail> {
-        let (source, target, end, letters) = way;
-        let mut memory = [NO_HOP; 64];
+    ) {
+        let mut memory = [HopRecord::default(); 64];
         let mut list = LentList::new(&mut memory);
-        assert!(rt; network.open(0, source, target).is_ok());
+        assert!(rt; network.open(0, way.source, way.target).is_ok());
         let carried = network.carry(0, u16::MAX, &mut list);
-        assert_eq!(rt; carried.is_ok(), !letters.is_empty());
-        assert!(rt; follow(list.as_slice(), letters));
-        let Ok((ended, total)) = network.collect(0) else {
-            assert!(rt; false);
-            return Ok(());
+        assert_eq!(rt; carried.is_ok(), !way.receivers.is_empty());
+        assert!(rt; follow(list.as_slice(), way.receivers));
+        assert_eq!(rt;
+            network
+                .collect(0)
+                .map(|(end, total)| (end, usize::from(total))),
+            Ok((way.end, way.receivers.len()))
+        );
+    }
+
+    // A host of a sample.
+    fn host_of<H: Making>(heap: Global, sample: Sample) -> Result<H, NoHost> {
+        let floor = Floor {
+            name: "sample",
+            reach: sample.reach,
+            coordinates: sample.points,
         };
-        assert_eq!(rt; ended.number(), end);
-        assert_eq!(rt; usize::from(total), letters.len());
-        Ok(())
+        let mut host: H = floor.host(heap)?;
+        for node in sample.withdrawn {
+            host.withdraw(*node);
+        }
+        Ok(host)
     }
 
     // A planariser makes of a host's links what was worked out.
-    fn check_thinned<S: Switching + Drop, P: Planariser + Drop>(
+    fn check_thinned<H: Switching + Drop, P: Planariser + Drop>(
         rt: &impl Abort,
-        host: S,
+        host: H,
         planariser: P,
         thinned: Thinned,
-    ) -> Result<(), Fail> {
-        assert_eq!(rt; kept_links(&host, &planariser), thinned.kept);
+    ) {
+        let graph = KeptGraph {
+            host: &host,
+            planariser: &planariser,
+        };
+        assert_eq!(rt; graph.kept_links(), thinned.kept);
         let mut network = Network::new(host, planariser);
         for way in thinned.ways {
-            check_way(rt, &mut network, *way)?;
+            check_way(rt, &mut network, *way);
         }
+    }
+
+    // Both planarisers make of a sample's links what was worked out.
+    fn check_sample<H: Making + Drop>(
+        rt: &impl Abort,
+        heap: Global,
+        sample: Sample,
+    ) -> Result<(), NoHost> {
+        check_thinned(rt, host_of::<H>(heap, sample)?, Gabriel, sample.gabriel);
+        check_thinned(rt, host_of::<H>(heap, sample)?, Relative, sample.relative);
         Ok(())
-    }
-
-    // A scan host of a sample.
-    fn scan_of(rt: &impl Abort, heap: Global, sample: Sample) -> Result<ScanHost, Fail> {
-        let Ok(mut host) = ScanHost::make(map_of(rt, heap, sample.points)?, sample.reach) else {
-            return Err(Fail::new("no host is made"));
-        };
-        for node in sample.withdrawn {
-            host.withdraw(*node);
-        }
-        Ok(host)
-    }
-
-    // A table host of a sample.
-    fn table_of(rt: &impl Abort, heap: Global, sample: Sample) -> Result<TableHost, Fail> {
-        let Ok(mut host) = TableHost::make(map_of(rt, heap, sample.points)?, sample.reach) else {
-            return Err(Fail::new("no host is made"));
-        };
-        for node in sample.withdrawn {
-            host.withdraw(*node);
-        }
-        Ok(host)
     }
 
     #[test]
     fn agrees_on_random_floors(rt: HostRuntime) -> Result<(), Fail> {
         for sample in SAMPLES {
-            check_thinned(
-                &rt,
-                scan_of(&rt, rt.alloc(), sample)?,
-                Gabriel,
-                sample.gabriel,
-            )?;
-            check_thinned(
-                &rt,
-                scan_of(&rt, rt.alloc(), sample)?,
-                Relative,
-                sample.relative,
-            )?;
-            check_thinned(
-                &rt,
-                table_of(&rt, rt.alloc(), sample)?,
-                Gabriel,
-                sample.gabriel,
-            )?;
-            check_thinned(
-                &rt,
-                table_of(&rt, rt.alloc(), sample)?,
-                Relative,
-                sample.relative,
-            )?;
+            check_sample::<ScanHost>(&rt, rt.alloc(), sample)?;
+            check_sample::<TableHost>(&rt, rt.alloc(), sample)?;
         }
         Ok(())
     }
 
-    // A packet of a record is forwarded over one host and received over another.
-    fn across<'a, R: Reading, S: Reading>(before: &'a R, after: &'a S, record: Record) -> Record {
+    // A packet of a record, unless it has ended, is forwarded over one graph and received over another.
+    fn across<R: Reading, S: Reading, P: Planariser>(
+        before: KeptGraph<'_, R, P>,
+        after: KeptGraph<'_, S, P>,
+        record: Record,
+    ) -> Result<Record, Refusal> {
         match Packet::take_up(record) {
-            Packet::Held(held) => match held.forward(before, &Gabriel) {
-                Ok(flight) => flight.receive(after, &Gabriel).put_by(),
-                Err(Unsent { why: _, held }) => held.set_aside(),
-            },
-            Packet::Ended(ended) => ended.file(),
-        }
-    }
-
-    // The record of a packet after some sends over a host.
-    fn sent_on<'a, R: Reading>(
-        host: &'a R,
-        source: u8,
-        target: u8,
-        sends: u8,
-    ) -> Result<Record, Fail> {
-        let Ok(packet) = Packet::open(host, &Gabriel, source, target) else {
-            return Err(Fail::new("no packet is opened"));
-        };
-        let mut record = packet.put_by();
-        for _ in 0..sends {
-            record = across(host, host, record);
-        }
-        Ok(record)
-    }
-
-    // What forwarding the packet of a record over a host is refused with, or 0.
-    fn refusal<'a, R: Reading>(host: &'a R, record: Record) -> u8 {
-        match Packet::take_up(record) {
-            Packet::Held(held) => match held.forward(host, &Gabriel) {
-                Ok(flight) => {
-                    flight.receive(host, &Gabriel).put_by();
-                    0
-                }
+            Packet::Held(held) => match held.forward(before) {
+                Ok(flight) => Ok(flight.receive(after).put_by()),
                 Err(Unsent { why, held }) => {
                     held.set_aside();
-                    why.number()
+                    Err(why)
                 }
             },
-            Packet::Ended(ended) => {
-                ended.file();
-                0
-            }
+            Packet::Ended(ended) => Ok(ended.file()),
         }
     }
 
     // A packet finds a node gone: before its next send, and while that is in the air.
-    fn check_stale<'a>(
+    fn check_stale<R: Reading, S: Reading, P: Planariser>(
         rt: &impl Abort,
-        whole: &'a ScanHost,
-        gone: &'a TableHost,
+        whole: KeptGraph<'_, R, P>,
+        gone: KeptGraph<'_, S, P>,
         stale: Stale,
-    ) -> Result<(), Fail> {
-        let (source, target, sends, _, refused, holder, end) = stale;
-        let record = sent_on(whole, source, target, sends)?;
-        assert_eq!(rt; refusal(gone, record), refused);
-        let after = across(whole, gone, record);
-        assert_eq!(rt; after.holder, holder);
-        assert_eq!(rt; after.end.number(), end);
-        assert_eq!(rt; after.total, u16::from(sends) + 1);
+    ) -> Result<(), Refusal> {
+        let mut record = Packet::open(whole, stale.source, stale.target)?.put_by();
+        for _ in 0..stale.sends {
+            record = across(whole, whole, record)?;
+        }
+        assert_eq!(rt;
+            across(gone, gone, record).err().map(u8::from),
+            stale.refused
+        );
+        let after = across(whole, gone, record)?;
+        assert_eq!(rt; after.holder, stale.holder);
+        assert_eq!(rt; after.end, stale.end);
+        assert_eq!(rt; after.total, u16::from(stale.sends) + 1);
         Ok(())
     }
 
     #[test]
     fn agrees_where_a_node_is_gone(rt: HostRuntime) -> Result<(), Fail> {
         for stale in STALE {
-            let Ok(whole) = ScanHost::make(map_of(&rt, rt.alloc(), &TAIL)?, TAIL_REACH) else {
-                return Err(Fail::new("no host is made"));
+            let whole: ScanHost = TAIL.host(rt.alloc())?;
+            let mut gone: TableHost = TAIL.host(rt.alloc())?;
+            gone.withdraw(stale.gone);
+            let whole = KeptGraph {
+                host: &whole,
+                planariser: &Gabriel,
             };
-            let Ok(mut gone) = TableHost::make(map_of(&rt, rt.alloc(), &TAIL)?, TAIL_REACH) else {
-                return Err(Fail::new("no host is made"));
+            let gone = KeptGraph {
+                host: &gone,
+                planariser: &Gabriel,
             };
-            gone.withdraw(stale.3);
-            check_stale(&rt, &whole, &gone, stale)?;
+            check_stale(&rt, whole, gone, stale)?;
         }
         Ok(())
     }

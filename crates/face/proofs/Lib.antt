@@ -1,3 +1,1 @@
-mod ByComputing
-mod Sides
 mod Hosts

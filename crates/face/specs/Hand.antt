@@ -11,6 +11,7 @@ use Rattle.kept.specs.Kept.{first_round, kept_neighbours}
 use Rattle.face.specs.declared.record.Link.{Link}
 use Rattle.face.specs.declared.record.Record.{Record}
 use Rattle.face.specs.declared.record.End.TheVariants.{Delivered}
+use Rattle.face.specs.declared.packet.Token.{Token}
 use Rattle.face.specs.declared.packet.Held.{Held}
 use Rattle.face.specs.declared.packet.InAir.{InAir}
 use Rattle.face.specs.declared.packet.Packet.{Packet}
@@ -28,12 +29,15 @@ denial NoWay = 61
 
 -- ---- live packets
 
+abbrev pub live : Record → Token
+live r = record { carried = r; spent = false }
+
 abbrev pub in_air : Record → InAir
-in_air r = record { carried = r; spent = false }
+in_air r = record { token = live r }
 
 abbrev pub in_hand_with : Record → Option Link → Packet
-in_hand_with r None = packet.Ended (record { carried = r; spent = false })
-in_hand_with r (Some l) = packet.Held (record { carried = r; spent = false })
+in_hand_with r None = packet.Ended (record { token = live r })
+in_hand_with r (Some l) = packet.Held (record { token = live r })
 
 -- held where a link is in hand, ended where none is
 abbrev pub in_hand : Record → Packet
@@ -41,8 +45,8 @@ in_hand r = in_hand_with r r.hand
 
 -- the record of a packet
 abbrev pub carried_by : Packet → Record
-carried_by (packet.Held p) = p.carried
-carried_by (packet.Ended p) = p.carried
+carried_by (packet.Held p) = p.token.carried
+carried_by (packet.Ended p) = p.token.carried
 
 -- ---- opening
 
@@ -77,7 +81,7 @@ may_go near r = may_go_along near r r.hand
 
 -- into the air; or refused with 61, and handed back as it was
 abbrev pub forward_answer : Blocks → Meaning → Held → Result InAir (ℕ × Held)
-forward_answer b m h = cond (may_go (kept_neighbours b m h.carried.holder) h.carried) (Ok (in_air h.carried)) (Err (61, h))
+forward_answer b m h = cond (may_go (kept_neighbours b m h.token.carried.holder) h.token.carried) (Ok (in_air h.token.carried)) (Err (61, h))
 
 -- an answer to forwarding or hopping, its refusal by number
 abbrev pub told : {A : Type 0} → Result A Unsent → Result A (ℕ × Held)
@@ -88,7 +92,7 @@ told (Err u) = Err (denial u.why, u.held)
 
 -- one send: refused as forwarding is, or the packet where it came to
 abbrev pub hop_answer : Blocks → Meaning → Held → Result Packet (ℕ × Held)
-hop_answer b m h = cond (may_go (kept_neighbours b m h.carried.holder) h.carried) (Ok (in_hand (send b m h.carried))) (Err (61, h))
+hop_answer b m h = cond (may_go (kept_neighbours b m h.token.carried.holder) h.token.carried) (Ok (in_hand (send b m h.token.carried))) (Err (61, h))
 
 -- planarisers that answer alike, equal records, and receivers with equal numbers, points and neighbours: equal records after a send
 abbrev pub SendsAreLocal : Type 0

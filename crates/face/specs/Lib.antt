@@ -4,3 +4,4 @@ pub mod Worked
 pub mod Arrival
 pub mod Hand
 pub mod Ends
+pub mod Texts

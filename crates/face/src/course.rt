@@ -1,6 +1,6 @@
-ghost use Rattle.std.specs.Prelude.{◌≡◌, ◌<◌, Some};
+ghost use Rattle.std.specs.Prelude.{◌≡◌, ◌<◌};
 ghost use Rattle.order.specs.Places.{nearer};
-ghost use Rattle.face.specs.Packet.{more, new_round, better, best_after, counted, walking, is_link};
+ghost use Rattle.face.specs.Packet.{more, new_round, better, best_after, counted, walking};
 ghost use Rattle.order.specs.Nearest;
 
 use crate::record::{Best, Course, Link, Phase};
@@ -51,15 +51,6 @@ fn better(link: Link, index: u16, place: Place, best: Option<Best>) -> Option<Be
             ..best
         }),
         (held, _) => held,
-    }
-}
-
-impl Link {
-    /// Whether it is the link from `u` to `v`.
-    pub fn runs(self, u: u8, v: u8) -> bool
-        ensures { result ≡ is_link (Some self) u v }
-    {
-        self.from == u && self.to == v
     }
 }
 

@@ -2,32 +2,69 @@
 ghost use Rattle.std.specs.Prelude.{◌≡◌, true, ◌≢◌};
 ghost use Rattle.face.specs.Packet.{send, opened_ended};
 ghost use Rattle.face.specs.declared.record.End.TheVariants.{Unreachable};
-ghost use Rattle.face.specs.Hand.{in_hand, carried_by, opened_from, open_answer, open_told, may_go, forward_answer, hop_answer, told, SendsAreLocal, denial};
+ghost use Rattle.face.specs.Hand.{live, in_hand, carried_by, opened_from, open_answer, open_told, may_go, forward_answer, hop_answer, told, SendsAreLocal};
 
 use crate::record::{Course, End, Link, Record};
 use floor::node::Node;
 use floor::planariser::Planariser;
 use host::sides::Reading;
 use kept::around::Surroundings;
-use kept::view::View;
+use kept::links::KeptGraph;
 use order::{Place, Sense, Start};
 
-/// A packet at a node, with a link in hand.
-pub struct Held {
+// A packet's one record, and whether it is spent: let go only then.
+struct Token {
     carried: Record,
     spent: bool,
+}
+
+impl Drop for Token {
+    fn drop(self)
+        requires { self.spent ≡ true }
+    {
+        let Token {
+            carried: _,
+            spent: _,
+        } = self;
+    }
+}
+
+impl Token {
+    // A live packet's.
+    fn new(carried: Record) -> Token
+        ensures { result ≡ live carried }
+    {
+        Token {
+            carried,
+            spent: false,
+        }
+    }
+
+    // Spends it for its record.
+    fn spend(mut self) -> Record
+        ensures { result ≡ self.carried }
+    {
+        self.spent = true;
+        self.carried
+    }
+}
+
+/// A packet at a node, with a link in hand.
+#[derive(Drop)]
+pub struct Held {
+    token: Token,
 }
 
 /// A packet on its way along the link in hand.
+#[derive(Drop)]
 pub struct InAir {
-    carried: Record,
-    spent: bool,
+    token: Token,
 }
 
 /// A packet at its end.
+#[derive(Drop)]
 pub struct Ended {
-    carried: Record,
-    spent: bool,
+    token: Token,
 }
 
 /// A packet where it came to: held, or at its end.
@@ -37,7 +74,7 @@ pub enum Packet {
 }
 
 /// Why a packet is not opened, or not forwarded.
-#[derive(Clone, Copy)]
+#[derive(Clone, Copy, PartialEq, Eq, Debug)]
 pub enum Refusal {
     /// Source or target is no node.
     NoNode,
@@ -47,12 +84,14 @@ pub enum Refusal {
     NoWay,
 }
 
-impl Refusal {
-    /// The number of the refusal.
-    pub fn number(self) -> u8
-        ensures { result ≡ denial self }
-    {
-        match self {
+/// The number of the refusal.
+impl From<Refusal> for u8 {
+    ghost use Rattle.face.specs.Hand.{denial};
+
+    ghost from_gives = { λ refusal number. number ≡ denial refusal };
+
+    fn from(refusal: Refusal) -> u8 {
+        match refusal {
             Refusal::NoNode => 43,
             Refusal::OutOfService => 44,
             Refusal::NoWay => 61,
@@ -64,39 +103,6 @@ impl Refusal {
 pub struct Unsent {
     pub why: Refusal,
     pub held: Held,
-}
-
-impl Drop for Held {
-    fn drop(self)
-        requires { self.spent ≡ true }
-    {
-        let Held {
-            carried: _,
-            spent: _,
-        } = self;
-    }
-}
-
-impl Drop for InAir {
-    fn drop(self)
-        requires { self.spent ≡ true }
-    {
-        let InAir {
-            carried: _,
-            spent: _,
-        } = self;
-    }
-}
-
-impl Drop for Ended {
-    fn drop(self)
-        requires { self.spent ≡ true }
-    {
-        let Ended {
-            carried: _,
-            spent: _,
-        } = self;
-    }
 }
 
 // The record of a new packet, from its source's surroundings. Another node at the source's own point lies in no direction.
@@ -136,21 +142,20 @@ impl Record {
     fn may_go<V: Surroundings>(&self, around: &V) -> bool
         ensures { result ≡ may_go (V.near around.now) self.now }
     {
-        let Some(link) = self.hand else {
-            return false;
-        };
-        link.from == self.holder && self.total < u16::MAX && around.known(link.to).is_some()
+        self.hand.is_some_and(|link| {
+            link.from == self.holder && self.total < u16::MAX && around.known(link.to).is_some()
+        })
     }
 
     // The send along the link in hand, over a host: the step of the node there, if there is one.
-    pub fn send<'a, R: Reading, P: Planariser>(&mut self, host: &'a R, planariser: &'a P)
-        ensures { self.new ≡ send (P.Planariser.blocking planariser.now) (R.Reading.meaning host.now) self.old }
+    pub fn send<R: Reading, P: Planariser>(&mut self, graph: KeptGraph<'_, R, P>)
+        ensures { self.new ≡ send (P.Planariser.blocking graph.entry.planariser.now) (R.Reading.meaning graph.entry.host.now) self.old }
     {
         let Some(link) = self.hand else {
             return;
         };
-        match host.radio(link.to) {
-            Some(_) => self.arrive(link.from, &View::new(host, planariser, link.to)),
+        match graph.host.radio(link.to) {
+            Some(_) => self.arrive(link.from, &graph.view(link.to)),
             None => self.finish(link.to, End::Unreachable),
         }
     }
@@ -158,21 +163,20 @@ impl Record {
 
 impl Packet {
     /// A new packet between two nodes of a host.
-    pub fn open<'a, R: Reading, P: Planariser>(
-        host: &'a R,
-        planariser: &'a P,
+    pub fn open<R: Reading, P: Planariser>(
+        graph: KeptGraph<'_, R, P>,
         source: u8,
         target: u8,
     ) -> Result<Packet, Refusal>
-        ensures { open_told result ≡ open_answer (P.Planariser.blocking planariser.now) (R.Reading.meaning host.now) source target }
+        ensures { open_told result ≡ open_answer (P.Planariser.blocking graph.entry.planariser.now) (R.Reading.meaning graph.entry.host.now) source target }
     {
-        let (Some(from), Some(to)) = (host.radio(source), host.radio(target)) else {
+        let (Some(from), Some(to)) = (graph.host.radio(source), graph.host.radio(target)) else {
             return Err(Refusal::NoNode);
         };
         if !from.serving || !to.serving {
             return Err(Refusal::OutOfService);
         }
-        let view = View::new(host, planariser, source);
+        let view = graph.view(source);
         Ok(Packet::take_up(opened(
             &view,
             Node {
@@ -186,15 +190,10 @@ impl Packet {
     pub fn take_up(carried: Record) -> Packet
         ensures { result ≡ in_hand carried }
     {
+        let token = Token::new(carried);
         match carried.hand {
-            Some(_) => Packet::Held(Held {
-                carried,
-                spent: false,
-            }),
-            None => Packet::Ended(Ended {
-                carried,
-                spent: false,
-            }),
+            Some(_) => Packet::Held(Held { token }),
+            None => Packet::Ended(Ended { token }),
         }
     }
 
@@ -211,58 +210,53 @@ impl Packet {
 
 impl Held {
     /// Into the air, along the link in hand.
-    pub fn forward<'a, R: Reading, P: Planariser>(
+    pub fn forward<R: Reading, P: Planariser>(
         self,
-        host: &'a R,
-        planariser: &'a P,
+        graph: KeptGraph<'_, R, P>,
     ) -> Result<InAir, Unsent>
-        ensures { told result ≡ forward_answer (P.Planariser.blocking planariser.now) (R.Reading.meaning host.now) self }
+        ensures { told result ≡ forward_answer (P.Planariser.blocking graph.entry.planariser.now) (R.Reading.meaning graph.entry.host.now) self }
     {
-        let view = View::new(host, planariser, self.carried.holder);
-        if !self.carried.may_go(&view) {
+        let view = graph.view(self.token.carried.holder);
+        if !self.token.carried.may_go(&view) {
             return Err(Unsent {
                 why: Refusal::NoWay,
                 held: self,
             });
         }
         Ok(InAir {
-            carried: self.set_aside(),
-            spent: false,
+            token: Token::new(self.set_aside()),
         })
     }
 
     /// One send: forwarded, and received.
-    pub fn hop<'a, R: Reading, P: Planariser>(
+    pub fn hop<R: Reading, P: Planariser>(
         self,
-        host: &'a R,
-        planariser: &'a P,
+        graph: KeptGraph<'_, R, P>,
     ) -> Result<Packet, Unsent>
-        ensures { told result ≡ hop_answer (P.Planariser.blocking planariser.now) (R.Reading.meaning host.now) self }
+        ensures { told result ≡ hop_answer (P.Planariser.blocking graph.entry.planariser.now) (R.Reading.meaning graph.entry.host.now) self }
     {
-        let flight = self.forward(host, planariser)?;
-        Ok(flight.receive(host, planariser))
+        let flight = self.forward(graph)?;
+        Ok(flight.receive(graph))
     }
 
     /// Spends the packet; its record can be taken up again.
     pub fn set_aside(self) -> Record
-        ensures { result ≡ self.carried }
+        ensures { result ≡ self.token.carried }
     {
-        let mut held = self;
-        held.spent = true;
-        held.carried
+        let Held { token } = self;
+        token.spend()
     }
 }
 
 impl InAir {
     /// The receiver makes its step: the packet is held there, or at its end.
-    pub fn receive<'a, R: Reading, P: Planariser>(self, host: &'a R, planariser: &'a P) -> Packet
-        ensures step { result ≡ in_hand (send (P.Planariser.blocking planariser.now) (R.Reading.meaning host.now) self.carried) }
+    pub fn receive<R: Reading, P: Planariser>(self, graph: KeptGraph<'_, R, P>) -> Packet
+        ensures step { result ≡ in_hand (send (P.Planariser.blocking graph.entry.planariser.now) (R.Reading.meaning graph.entry.host.now) self.token.carried) }
         ensures local { SendsAreLocal }
     {
-        let mut flight = self;
-        flight.spent = true;
-        let mut carried = flight.carried;
-        carried.send(host, planariser);
+        let InAir { token } = self;
+        let mut carried = token.spend();
+        carried.send(graph);
         Packet::take_up(carried)
     }
 }
@@ -270,10 +264,9 @@ impl InAir {
 impl Ended {
     /// Spends the packet; its record says how it ended.
     pub fn file(self) -> Record
-        ensures { result ≡ self.carried }
+        ensures { result ≡ self.token.carried }
     {
-        let mut ended = self;
-        ended.spent = true;
-        ended.carried
+        let Ended { token } = self;
+        token.spend()
     }
 }

@@ -1,18 +1,18 @@
 ghost use Rattle.std.specs.Prelude.{◌≡◌};
-ghost use Rattle.face.specs.Ends.{end_number};
 
 use floor::node::Node;
 use order::Place;
+use std::fmt;
 
 /// A link in one of its two directions.
-#[derive(Clone, Copy)]
+#[derive(Clone, Copy, PartialEq, Eq, Debug)]
 pub struct Link {
     pub from: u8,
     pub to: u8,
 }
 
 /// The crossing nearest the target that a round has met.
-#[derive(Clone, Copy)]
+#[derive(Clone, Copy, PartialEq, Eq, Debug)]
 pub struct Best {
     pub link: Link,
     pub index: u16,
@@ -21,27 +21,45 @@ pub struct Best {
 }
 
 /// Round a face, or back along it to the best crossing by the shorter way.
-#[derive(Clone, Copy)]
+#[derive(Clone, Copy, PartialEq, Eq, Debug, Default)]
 pub enum Phase {
+    #[default]
     Round,
     Ahead,
     Back,
 }
 
+impl fmt::Display for Phase {
+    ghost use Rattle.std.specs.Prelude.{Some};
+    ghost use Rattle.face.specs.Texts.{phase_text};
+
+    ghost output = { λ phase. Some (phase_text phase) };
+
+    fn fmt<W: fmt::Write>(&self, f: &mut fmt::Formatter<W>) -> fmt::Result {
+        f.write_str(match self {
+            Phase::Round => "Round",
+            Phase::Ahead => "Ahead",
+            Phase::Back => "Back",
+        })
+    }
+}
+
 /// How a packet stands.
-#[derive(Clone, Copy)]
+#[derive(Clone, Copy, PartialEq, Eq, Debug)]
 pub enum End {
     UnderWay,
     Delivered,
     Unreachable,
 }
 
-impl End {
-    /// The number of the end.
-    pub fn number(self) -> u8
-        ensures { result ≡ end_number self }
-    {
-        match self {
+/// The number of the end.
+impl From<End> for u8 {
+    ghost use Rattle.face.specs.Ends.{end_number};
+
+    ghost from_gives = { λ end number. number ≡ end_number end };
+
+    fn from(end: End) -> u8 {
+        match end {
             End::UnderWay => 0,
             End::Delivered => 1,
             End::Unreachable => 2,
@@ -49,8 +67,23 @@ impl End {
     }
 }
 
+impl fmt::Display for End {
+    ghost use Rattle.std.specs.Prelude.{Some};
+    ghost use Rattle.face.specs.Texts.{end_text};
+
+    ghost output = { λ end. Some (end_text end) };
+
+    fn fmt<W: fmt::Write>(&self, f: &mut fmt::Formatter<W>) -> fmt::Result {
+        f.write_str(match self {
+            End::UnderWay => "under way",
+            End::Delivered => "delivered",
+            End::Unreachable => "unreachable",
+        })
+    }
+}
+
 /// A packet's way from face to face.
-#[derive(Clone, Copy)]
+#[derive(Clone, Copy, PartialEq, Eq, Debug)]
 pub struct Course {
     pub phase: Phase,
     pub first: Option<Link>,
@@ -61,7 +94,7 @@ pub struct Course {
 }
 
 /// All that a packet carries.
-#[derive(Clone, Copy)]
+#[derive(Clone, Copy, PartialEq, Eq, Debug)]
 pub struct Record {
     pub source: Node,
     pub target: Node,

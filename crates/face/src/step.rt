@@ -1,7 +1,7 @@
 ghost use Rattle.std.specs.Prelude.{◌≡◌};
 ghost use Rattle.floor.specs.declared.node.Node.{Node};
 ghost use Rattle.face.specs.Packet.{Verdict, GoesOn, Ends, under, verdict, turning, walked, closed, reopened, opens, on_with};
-ghost use Rattle.face.specs.Arrival.{led, is_done, upon};
+ghost use Rattle.face.specs.Arrival.{led, lengthened, is_done, upon};
 
 use crate::course::one_more;
 use crate::crossing::crossing;
@@ -11,7 +11,7 @@ use kept::around::Surroundings;
 use order::{Sense, Start};
 
 /// What a receiver finds when a packet comes in.
-#[derive(Clone, Copy)]
+#[derive(Clone, Copy, PartialEq, Eq, Debug)]
 pub enum Arrival {
     /// It is the target.
     AtTarget,
@@ -27,27 +27,22 @@ pub enum Arrival {
 fn turn_from<V: Surroundings>(around: &V, sense: Sense, from: u8) -> Option<(Node, Node)>
     ensures { (go : Node → Node → Verdict) → turning (V.here around.now) (V.near around.now) sense from go ≡ led go result }
 {
-    let Some(came) = around.known(from) else {
-        return None;
-    };
-    let Some(next) = around.first(sense, Start::FullTurn, came.point) else {
-        return None;
-    };
+    let came = around.known(from)?;
+    let next = around.first(sense, Start::FullTurn, came.point)?;
     Some((came, next))
 }
 
-// The node that a new round's first link goes to, none being left to walk to the best.
-fn reopening<V: Surroundings>(phase: Phase, best: Best, around: &V) -> Option<Node>
-    ensures { reopened (V.here around.now) (V.near around.now) phase best ≡ on_with (opens (V.here around.now) (V.near around.now) best) result }
+// The best crossing, and the node that a new round's first link there goes to, none being left to walk.
+fn reopening<V: Surroundings>(phase: Phase, best: Option<Best>, around: &V) -> Option<(Best, Node)>
+    ensures { on_with (reopened (V.here around.now) (V.near around.now) phase) best ≡ on_with (λ found. opens (V.here around.now) (V.near around.now) found.0 found.1) result }
 {
-    match phase {
-        Phase::Round => None,
-        Phase::Ahead => match turn_from(around, Sense::Clockwise, best.link.to) {
-            Some((_, next)) => Some(next),
-            None => None,
-        },
-        Phase::Back => around.known(best.link.from),
-    }
+    let best = best?;
+    let next = match phase {
+        Phase::Round => return None,
+        Phase::Ahead => turn_from(around, Sense::Clockwise, best.link.to)?.1,
+        Phase::Back => around.known(best.link.from)?,
+    };
+    Some((best, next))
 }
 
 impl Record {
@@ -76,20 +71,11 @@ impl Record {
         ensures { self.new ≡ under self.old (V.here around.now).number (on_with (reopened (V.here around.now) (V.near around.now) phase) best) }
     {
         let at = around.node().number;
-        let Some(best) = best else {
+        let Some((best, next)) = reopening(phase, best, around) else {
             return self.finish(at, End::Unreachable);
         };
-        let Some(next) = reopening(phase, best, around) else {
-            return self.finish(at, End::Unreachable);
-        };
-        self.course = Course::new_round(
-            best.place,
-            Some(Link {
-                from: at,
-                to: next.number,
-            }),
-        );
         self.go_on(at, next.number);
+        self.course = Course::new_round(best.place, self.hand);
     }
 
     // On to `next` under a course with sends to walk; into a new round under one with none.
@@ -108,12 +94,9 @@ impl Record {
         ensures { self.new ≡ under self.old (V.here around.now).number (closed (V.here around.now) (V.near around.now) course next course.best) }
     {
         let at = around.node().number;
-        let best = match course.best {
-            Some(best) if !best.marked => best,
-            _ => {
-                self.course = course;
-                return self.finish(at, End::Unreachable);
-            }
+        let Some(best) = course.best.filter(|best| !best.marked) else {
+            self.course = course;
+            return self.finish(at, End::Unreachable);
         };
         let rest = course.sends.saturating_sub(1).saturating_sub(best.index);
         if best.index <= rest {
@@ -129,10 +112,10 @@ impl Record {
     fn is_done(&self, at: u8, next: u8) -> bool
         ensures { result ≡ is_done self.now at next self.now.course.phase }
     {
-        match (self.course.phase, self.course.first) {
-            (Phase::Round, Some(first)) => first.runs(at, next),
-            (Phase::Round, None) => false,
-            (Phase::Ahead | Phase::Back, _) => self.course.walk <= 1,
+        let link = Link { from: at, to: next };
+        match self.course.phase {
+            Phase::Round => self.course.first == Some(link),
+            Phase::Ahead | Phase::Back => self.course.walk <= 1,
         }
     }
 
@@ -148,17 +131,27 @@ impl Record {
             Phase::Round | Phase::Ahead => Sense::Clockwise,
             Phase::Back => Sense::Counter,
         };
-        match turn_from(around, sense, from) {
-            None => Arrival::Astray,
-            Some((came, next)) if self.is_done(at, next.number) => Arrival::Done {
-                came,
-                next: next.number,
-            },
-            Some((came, next)) => Arrival::Next {
-                came,
-                next: next.number,
-            },
+        let Some((came, next)) = turn_from(around, sense, from) else {
+            return Arrival::Astray;
+        };
+        let next = next.number;
+        if self.is_done(at, next) {
+            Arrival::Done { came, next }
+        } else {
+            Arrival::Next { came, next }
         }
+    }
+
+    // The course of a round after the link from node `from`, which is `came`, to node `at`.
+    fn lengthened(&self, from: u8, came: Node, at: Node) -> Course
+        ensures { result ≡ lengthened self.now from came at }
+    {
+        let link = Link {
+            from,
+            to: at.number,
+        };
+        self.course
+            .counted(link, crossing(self.source, self.target, came, at))
     }
 
     /// The one local step: the packet has come from node `from` to a node with these surroundings.
@@ -166,30 +159,21 @@ impl Record {
         ensures { self.new ≡ under self.old (V.here around.now).number (verdict (V.here around.now) (V.near around.now) self.old from) }
     {
         let at = around.node();
-        let link = Link {
-            from,
-            to: at.number,
-        };
         match (self.course.phase, self.arrival(from, around)) {
             (_, Arrival::AtTarget) => self.finish(at.number, End::Delivered),
             (_, Arrival::Astray) => self.finish(at.number, End::Unreachable),
             (Phase::Round, Arrival::Next { came, next }) => {
-                self.course = self
-                    .course
-                    .counted(link, crossing(self.source, self.target, came, at));
+                self.course = self.lengthened(from, came, at);
                 self.go_on(at.number, next);
             }
             (Phase::Round, Arrival::Done { came, next }) => {
-                let course = self
-                    .course
-                    .counted(link, crossing(self.source, self.target, came, at));
-                self.close(course, next, around);
+                self.close(self.lengthened(from, came, at), next, around);
             }
-            (Phase::Ahead | Phase::Back, Arrival::Next { came: _, next }) => {
+            (Phase::Ahead | Phase::Back, Arrival::Next { next, .. }) => {
                 self.course.walk = self.course.walk.saturating_sub(1);
                 self.go_on(at.number, next);
             }
-            (Phase::Ahead | Phase::Back, Arrival::Done { came: _, next: _ }) => {
+            (Phase::Ahead | Phase::Back, Arrival::Done { .. }) => {
                 self.reopen(self.course.phase, self.course.best, around);
             }
         }

@@ -4,14 +4,13 @@ use mathlib.Core.Logic.{∥∥₁_elim}
 use mathlib.Core.HLevel.{Π_prop, ×_prop}
 use native.Mathlib.Bridge.{le_prop}
 use Rattle.std.proofs.lemmas.List.{length_push}
-use Rattle.std.proofs.lemmas.Bool.{or_parts, and_parts, leb-true, leb-false, both_ways}
+use Rattle.std.proofs.lemmas.Bool.{or_parts, and_parts, and_from, eq-eqb, leb-true, leb-false, both_ways}
 use Rattle.plane.specs.declared.Point.{Point}
 use Rattle.plane.specs.Plane.{turn, farthest, InRange}
 use Rattle.plane.proofs.Vectors.{position}
 use Rattle.plane.proofs.Facts.{turn_cycle, turn_swap}
 use Rattle.floor.specs.declared.map.PlaceRefusal.TheVariants.{Full, OutOfRange, Occupied, OnALine}
-use Rattle.floor.specs.Lists.{nth, some_is}
-use Rattle.floor.proofs.Lines.{same_itself}
+use Rattle.std.specs.List.{slice_get, list_any}
 use Rattle.floor.proofs.Lists.{no_place, none_is, nth_push}
 use Rattle.floor.specs.Position.{GeneralPosition}
 use Rattle.floor.specs.declared.map.Map.{Map}
@@ -28,6 +27,9 @@ turn_back a b c h e = h (turn_swap (position b) (position a) (position c) ∙ ap
 bent_if : (a b c : Point) → straight a b c ≡ false → turn a b c ≢ pos 0
 bent_if a b c h e = both_ways (straight a b c) h (ap (λ (z : ℤ). eqb (nat_abs z) 0) e)
 
+same_itself : (p q : Point) → p ≡ q → same p q ≡ true
+same_itself p q e = and_from (eqb p.x q.x) (eqb p.y q.y) (eq-eqb p.x q.x (ap (λ (z : Point). z.x) e)) (eq-eqb p.y q.y (ap (λ (z : Point). z.y) e))
+
 apart_if : (p q : Point) → same p q ≡ false → p ≢ q
 apart_if p q h e = both_ways (same p q) h (same_itself p q e)
 
@@ -37,7 +39,7 @@ range_of p h =
     (leb-true p.x farthest both.0, leb-true p.y farthest both.1)
 
 -- p is on no line with two of the points
-off_lines : (ps : List Point) (p : Point) → on_a_line ps p ≡ false → (i j : ℕ) (a b : Point) → i ≢ j → nth ps i ≡ Some a → nth ps j ≡ Some b → turn a b p ≢ pos 0
+off_lines : (ps : List Point) (p : Point) → on_a_line ps p ≡ false → (i j : ℕ) (a b : Point) → i ≢ j → slice_get ps i ≡ Some a → slice_get ps j ≡ Some b → turn a b p ≢ pos 0
 off_lines [] p h i j a b ne s t = no_place i a s
 off_lines (x ∷ ps) p h zero zero a b ne s t = absurd (ne refl)
 off_lines (x ∷ ps) p h zero (suc j) a b ne s t =
@@ -51,7 +53,7 @@ off_lines (x ∷ ps) p h (suc i) zero a b ne s t =
 off_lines (x ∷ ps) p h (suc i) (suc j) a b ne s t = off_lines ps p (or_parts _ _ h).1 i j a b (λ e. ne (ap suc e)) s t
 
 -- one more point, where nothing is against it
-one_more : (ps : List Point) (p : Point) → Charted ps → leb 64 (length ps) ≡ false → in_range p ≡ true → some_is (same p) ps ≡ false → on_a_line ps p ≡ false → Charted (ps ++ p ∷ [])
+one_more : (ps : List Point) (p : Point) → Charted ps → leb 64 (length ps) ≡ false → in_range p ≡ true → list_any (same p) ps ≡ false → on_a_line ps p ≡ false → Charted (ps ++ p ∷ [])
 one_more ps p charted room range free off = record {
   few = omega (arith, length_push ps p, leb-false 64 (length ps) room);
   general = record {
@@ -61,16 +63,16 @@ one_more ps p charted room range free off = record {
   };
 }
   where
-    old_one : GeneralPosition (nth ps)
+    old_one : GeneralPosition (slice_get ps)
     old_one = charted.general
 
     new_in_range : InRange p
     new_in_range = range_of p range
 
     At : ℕ → Point → Type 0
-    At i q = (nth ps i ≡ Some q) ⊎ ((i ≡ length ps) × (q ≡ p))
+    At i q = (slice_get ps i ≡ Some q) ⊎ ((i ≡ length ps) × (q ≡ p))
 
-    new_apart : (i : ℕ) (q : Point) → nth ps i ≡ Some q → p ≢ q
+    new_apart : (i : ℕ) (q : Point) → slice_get ps i ≡ Some q → p ≢ q
     new_apart i q e = apart_if p q (none_is (same p) ps free i q e)
 
     two : (i j : ℕ) (q r : Point) → i ≢ j → At i q → At j r → q ≢ r
@@ -100,18 +102,8 @@ nothing_against false true false false n m e = (refl, refl, refl, refl)
 pub more_charted : (ps asked qs : List Point) (p : Point) (n : ℕ) → Charted ps → asked ≡ ps → Ok n ≡ placing asked p → qs ≡ ps ++ p ∷ [] → Charted qs
 more_charted ps asked qs p n old seen e new =
     let said = e ∙ ap (λ rs. placing rs p) seen in
-    let all = nothing_against (leb 64 (length ps)) (in_range p) (some_is (same p) ps) (on_a_line ps p) n (length ps) said in
+    let all = nothing_against (leb 64 (length ps)) (in_range p) (list_any (same p) ps) (on_a_line ps p) n (length ps) said in
     subst Charted (sym new) (one_more ps p old all.0 all.1 all.2 all.3)
-
-pub none_charted : (ps : List Point) → ps ≡ [] → Charted ps
-none_charted ps none = subst Charted (sym none) (record {
-  few = omega arith;
-  general = record {
-    in_range = λ i p e. no_place i p e;
-    apart = λ i j p q ne s t. no_place i p s;
-    bent = λ i j k p q r ij jk ik s t u. no_place i p s;
-  };
-})
 
 -- two proofs that points are charted are one, so a map's invariant can be used
 ⊥-fact : {A : Type 0} → IsProp (¬ A)
@@ -125,7 +117,7 @@ general_prop at g h = λ i. record {
 }
 
 charted_prop : (ps : List Point) → IsProp (Charted ps)
-charted_prop ps g h = λ i. record { few = le_prop g.few h.few i; general = general_prop (nth ps) g.general h.general i }
+charted_prop ps g h = λ i. record { few = le_prop g.few h.few i; general = general_prop (slice_get ps) g.general h.general i }
 
 pub charted : (m : Map) → Charted (points_of m)
 charted m = ∥∥₁_elim m.charted (charted_prop (points_of m)) (λ c. c)

@@ -6,4 +6,5 @@ pub mod Placing
 pub mod Meaning
 pub mod Planar
 pub mod DiscInLune
-pub mod RelativePlanariserLemmas
+pub mod BothLawful
+pub mod Rules

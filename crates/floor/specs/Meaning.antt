@@ -4,7 +4,8 @@ use Rattle.plane.specs.declared.Point.{Point}
 use Rattle.plane.specs.Plane.{squared}
 use Rattle.floor.specs.declared.node.Node.{Node}
 use Rattle.floor.specs.declared.node.Radio.{Radio}
-use Rattle.floor.specs.Lists.{differ, nth, some_is}
+use Rattle.std.specs.List.{slice_get, list_any}
+use Rattle.floor.specs.Lists.{differ}
 use Rattle.floor.specs.Position.{GeneralPosition}
 
 pub record Meaning : Type 0 where
@@ -12,7 +13,7 @@ pub record Meaning : Type 0 where
   pub nodes : List Radio
 
 abbrev pub radio : Meaning → ℕ → Option Radio
-radio m i = nth m.nodes i
+radio m i = slice_get m.nodes i
 
 abbrev pub place_of : Option Radio → Option Point
 place_of None = None
@@ -66,7 +67,7 @@ abbrev pub neighbours : Meaning → ℕ → List Node
 neighbours m i = heard_by m i (radio m i)
 
 abbrev pub is_among : List Node → ℕ → Bool
-is_among ns j = some_is (λ (n : Node). not (differ n.number j)) ns
+is_among ns j = list_any (λ (n : Node). not (differ n.number j)) ns
 
 -- a chain of radio links
 pub data Joined (m : Meaning) : ℕ → ℕ → Type 0 where

@@ -7,7 +7,7 @@ use plane::Point;
 mod placing;
 
 /// Why a point was not placed.
-#[derive(Clone, Copy)]
+#[derive(Clone, Copy, PartialEq, Eq, Debug)]
 pub enum PlaceRefusal {
     /// 64 nodes are placed.
     Full,

@@ -5,6 +5,7 @@ use plane::Point;
 
 pub mod gabriel;
 pub mod relative;
+pub mod rule;
 
 /// Thins the links of a storey: one question on three points.
 pub trait Planariser {

@@ -13,18 +13,7 @@ mod tests {
 
     // The number of the new node, or of the refusal.
     fn place(map: &mut Map, x: u16, y: u16) -> Result<u8, u8> {
-        match map.place(Point { x, y }) {
-            Ok(number) => Ok(number),
-            Err(refusal) => Err(refusal.number()),
-        }
-    }
-
-    // Whether node `i` is at (x, y).
-    fn is_at(map: &Map, i: u8, x: u16, y: u16) -> bool {
-        match map.node(i) {
-            Some(point) => point.is(Point { x, y }),
-            None => false,
-        }
+        map.place(Point { x, y }).map_err(u8::from)
     }
 
     // Points in the order of placing, with what each is answered.
@@ -55,9 +44,9 @@ mod tests {
             (3, 32_767, 5),
             (4, 5, 32_767),
         ] {
-            assert!(rt; is_at(&map, i, x, y));
+            assert_eq!(rt; map.node(i), Some(Point { x, y }));
         }
-        assert!(rt; map.node(5).is_none());
+        assert_eq!(rt; map.node(5), None);
         Ok(())
     }
 
@@ -74,7 +63,7 @@ mod tests {
         }
         for i in 0..64u8 {
             let x = u16::from(i);
-            assert!(rt; is_at(&map, i, x, x * x));
+            assert_eq!(rt; map.node(i), Some(Point { x, y: x * x }));
         }
         assert_eq!(rt; map.points().len(), 64);
         Ok(())
@@ -95,9 +84,7 @@ mod tests {
     #[test]
     fn blocks_links(rt: HostRuntime) {
         for (u, v, w, in_disc, in_lune) in LINKS {
-            let u = Point { x: u.0, y: u.1 };
-            let v = Point { x: v.0, y: v.1 };
-            let w = Point { x: w.0, y: w.1 };
+            let [u, v, w] = [u, v, w].map(Point::from);
             assert_eq!(rt; Gabriel.blocks(u, v, w), in_disc);
             assert_eq!(rt; Gabriel.blocks(v, u, w), in_disc);
             assert_eq!(rt; Relative.blocks(u, v, w), in_lune);

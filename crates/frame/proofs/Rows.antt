@@ -1,12 +1,21 @@
 -- A row of bytes that is accepted as a frame is the row of that frame.
-use Rattle.std.proofs.Common.{◌≡◌, ℕ, zero, suc, ◌+◌, ◌-◌, ◌<◌, cond, eqb, List, [], ◌∷◌, ◌++◌, length, drop, Ok, Result, sym, ap, ◌∙◌, ⊎_elim, arith}
-use Rattle.std.proofs.ByRecursion.{All-get_or}
+use Rattle.std.proofs.Common.{◌≡◌, ℕ, zero, suc, ◌+◌, ◌-◌, ◌<◌, ◌%◌, cond, eqb, List, [], ◌∷◌, ◌++◌, length, drop, fold, sum, Ok, Result, sym, ap, ◌∙◌, ⊎_elim, arith}
+use Rattle.std.proofs.lemmas.List.Elements.{All-get_or}
 use Rattle.std.proofs.lemmas.List.{drop_more, drop_all}
+use Rattle.std.proofs.lemmas.List.Sums.{sum_by-cons}
 use Rattle.std.proofs.lemmas.Bool.Decides.{nat_tests, eqb_tells}
 use Rattle.frame.specs.declared.fault.FrameFault.{FrameFault}
 use Rattle.frame.specs.declared.Frame.{Frame}
-use Rattle.frame.specs.Frames.{high, low, body, one, two, sized, by_kind}
+use Rattle.frame.specs.Frames.{high, low, body, check, one, two, sized, by_kind}
 use Rattle.frame.proofs.Spelling.{Bytes}
+
+-- a sum that wraps at each byte is the check byte
+wrapped_from : (bs : List ℕ) (a : ℕ) → a < 256 → fold (λ s b. (s + b) % 256) a bs ≡ (a + sum bs) % 256
+wrapped_from [] a h = omega arith
+wrapped_from (b ∷ bs) a h = omega (arith, wrapped_from bs ((a + b) % 256) (omega arith), sum_by-cons (λ x. x) b bs)
+
+pub wrapped_sum : (bs : List ℕ) → fold (λ s b. (s + b) % 256) 0 bs ≡ check bs
+wrapped_sum bs = omega (arith, wrapped_from bs 0 (omega arith))
 
 -- a row is what stands at its places, n of them from place i on
 abbrev places : List ℕ → ℕ → ℕ → List ℕ
@@ -55,4 +64,4 @@ by_kind_exact bs g small =
     (first_kind bs _ _ _ g _ (λ k len. cc)
     (first_kind bs _ _ _ g _ (λ k len. cc)
     (first_kind bs _ _ _ g _ (λ k len. let p = two_bytes bs 4 small (omega arith) in cc)
-    (λ e. absurd (let z : ◌≡◌ {A = ℕ} 0 1 = cc in omega arith))))))))
+    (λ e. cc)))))))

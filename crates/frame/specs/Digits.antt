@@ -1,6 +1,6 @@
 -- Bytes as hexadecimal digits, two a byte, the high half first. A character is its code.
 use Rattle.std.specs.Prelude.{ℕ, ◌+◌, ◌-◌, ◌*◌, ◌/◌, ◌%◌, Bool, cond, ◌&&◌, ◌||◌, List, [], ◌∷◌, length, Ok, Err, Result, ◌==◌, nat_le, nat_lt}
-use Rattle.std.specs.List.{prefix_len}
+use Rattle.std.specs.List.{flat_map, prefix_len}
 use Rattle.frame.specs.declared.fault.LineFault.{LineFault}
 use Rattle.frame.specs.declared.fault.LineFault.TheVariants.{TooLong, NotDigit, Odd}
 
@@ -16,10 +16,13 @@ is_digit c = (nat_le 48 c && nat_le c 57) || (nat_le 97 c && nat_le c 102)
 abbrev pub worth : ℕ → ℕ
 worth c = cond (nat_lt c 58) (c - 48) (c - 87)
 
+-- the two digits of a byte
+abbrev pub byte_digits : ℕ → List ℕ
+byte_digits b = digit (b / 16) ∷ digit (b % 16) ∷ []
+
 -- the digits of a row of bytes
-unfoldable pub spelled : List ℕ → List ℕ
-spelled [] = []
-spelled (b ∷ bs) = digit (b / 16) ∷ digit (b % 16) ∷ spelled bs
+abbrev pub spelled : List ℕ → List ℕ
+spelled bs = flat_map byte_digits bs
 
 -- the bytes that digits spell, two by two
 abbrev pub paired : List ℕ → List ℕ

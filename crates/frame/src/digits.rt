@@ -1,15 +1,14 @@
 //! Rows of bytes as hexadecimal digits, two a byte.
-ghost use Rattle.std.specs.Prelude.{◌≡◌, ◌+◌, ◌*◌, ◌/◌, ◌%◌, ◌<◌, ◌≤◌, true, length, take, Ok, Err, slice_set};
-ghost use Rattle.std.specs.List.{AllByRecursion};
-ghost use Rattle.frame.specs.Digits.{digit, is_digit, worth, paired, bytes_in};
+ghost use Rattle.std.specs.Prelude.{◌≡◌, ◌<◌, true, not, position};
+ghost use Rattle.frame.specs.Digits.{digit, is_digit, worth, byte_digits, spelled, bytes_in};
+ghost use Rattle.frame.specs.Lines.{told, held};
 
-use crate::fault::LineFault;
+use crate::fault::{LineFault, ShortBuffer};
+use crate::row::Row;
+use std::marker::Model;
 
 /// The most characters that a line may have.
-pub const LONGEST: usize = 80;
-
-/// The most bytes that a line can spell.
-pub const MOST_BYTES: usize = LONGEST / 2;
+const LONGEST: usize = 80;
 
 /// The digit of a number.
 fn to_digit(n: u8) -> u8
@@ -32,7 +31,8 @@ fn is_digit(c: u8) -> bool
 /// The number that a digit stands for.
 fn from_digit(c: u8) -> u8
     requires { is_digit c ≡ true }
-    ensures { (result ≡ worth c) × (result < 16) }
+    ensures number { result ≡ worth c }
+    ensures small { result < 16 }
 {
     match c {
         b'0'..=b'9' => c - b'0',
@@ -40,42 +40,85 @@ fn from_digit(c: u8) -> u8
     }
 }
 
-/// Looks for a line's first fault.
-pub fn check_digits(line: &[u8]) -> Result<(), LineFault>
-    ensures answer { elim result [ Ok _ ↦ bytes_in line.now ≡ Ok (paired line.now) | Err fault ↦ bytes_in line.now ≡ Err fault ] }
-    ensures digits { elim result [ Ok _ ↦ (length line.now ≤ 80) × AllByRecursion (λ c. is_digit c ≡ true) line.now | Err _ ↦ Unit {0} ] }
+/// The place of the first character that is no digit.
+fn first_stray(line: &[u8]) -> Option<usize>
+    ensures { result ≡ position (λ c. not (is_digit c)) line.now }
 {
-    if line.len() > LONGEST {
-        return Err(LineFault::TooLong);
-    }
-    for (at, c) in line.iter().enumerate() {
-        if !is_digit(*c) {
+    line.iter().position(|c| !is_digit(*c))
+}
+
+/// A line that spells bytes, seen as those bytes: at most 80 characters, all digits, an even number.
+#[derive(Drop)]
+pub struct Digits<'a> {
+    line: &'a [u8],
+}
+
+impl<'a> Model for Digits<'a> {
+    ghost use Rattle.std.specs.Prelude.{◌≡◌, ℕ, List, Ok};
+    ghost use Rattle.frame.specs.Digits.{paired, bytes_in};
+
+    ghost Value = { List ℕ };
+
+    ghost view = { λ d. paired d.line.now };
+
+    ghost invariant = { λ d. bytes_in d.line.now ≡ Ok (paired d.line.now) };
+}
+
+/// The digits in a line, or the line's first fault.
+impl<'a> TryFrom<&'a [u8]> for Digits<'a> {
+    type Error = LineFault;
+
+    ghost try_from_gives = { λ line r. r ≡ bytes_in line.now };
+
+    fn try_from(line: &'a [u8]) -> Result<Digits<'a>, LineFault> {
+        if line.len() > LONGEST {
+            return Err(LineFault::TooLong);
+        }
+        if let Some(at) = first_stray(line) {
             return Err(LineFault::NotDigit { at });
         }
+        if line.len() % 2 == 1 {
+            return Err(LineFault::Odd { digits: line.len() });
+        }
+        Ok(Digits { line })
     }
-    if line.len() % 2 == 1 {
-        return Err(LineFault::Odd { digits: line.len() });
-    }
-    Ok(())
 }
 
-/// Puts the bytes that a line of digits spells into a room, and tells how many they are.
-pub fn pair_up(line: &[u8], room: &mut [u8; MOST_BYTES]) -> usize
-    requires { (length line.now ≤ 80) × (AllByRecursion (λ c. is_digit c ≡ true) line.now) }
-    ensures { (result ≤ 40) × (take result room.new ≡ paired line.now) }
-{
-    let count = line.len() / 2;
-    for i in 0..count {
-        room[i] = from_digit(line[2 * i]) * 16 + from_digit(line[2 * i + 1]);
+/// The bytes that digits spell.
+impl From<Digits<'_>> for Row {
+    ghost from_gives = { λ digits r. r ≡ digits };
+
+    fn from(digits: Digits<'_>) -> Row {
+        let (pairs, _) = digits.line.as_chunks::<2>();
+        let mut row = Row::new();
+        for [high, low] in pairs {
+            row.push(from_digit(*high) * 16 + from_digit(*low));
+        }
+        row
     }
-    count
 }
 
-/// Puts the two digits of a byte where the byte at a place of a row goes.
-pub fn write_byte(byte: u8, at: usize, buf: &mut [u8])
-    requires { 2 * at + 1 < length buf.old }
-    ensures { buf.new ≡ slice_set (slice_set buf.old (2 * at) (digit (byte / 16))) (2 * at + 1) (digit (byte % 16)) }
+/// The two digits of a byte.
+fn spell(byte: u8) -> [u8; 2]
+    ensures { result ≡ byte_digits byte }
 {
-    buf[2 * at] = to_digit(byte / 16);
-    buf[2 * at + 1] = to_digit(byte % 16);
+    [to_digit(byte / 16), to_digit(byte % 16)]
+}
+
+/// Writes the digits of a row into a buffer, and tells how many they are.
+#[tactic(auto, using(crate::proofs::Spelling::length_spelled))]
+pub fn write_row(row: &Row, buf: &mut [u8]) -> Result<usize, ShortBuffer>
+    ensures answer { result ≡ told (spelled row.now) buf.old }
+    ensures buffer { buf.new ≡ held (spelled row.now) buf.old }
+{
+    let bytes = row.as_slice();
+    let size = 2 * bytes.len();
+    if buf.len() < size {
+        return Err(ShortBuffer);
+    }
+    // By places, since no clause says what a loop over `chunks_exact_mut(2)` leaves in the buffer.
+    for (at, byte) in bytes.iter().enumerate() {
+        buf[2 * at..2 * at + 2].copy_from_slice(&spell(*byte));
+    }
+    Ok(size)
 }

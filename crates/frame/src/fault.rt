@@ -41,12 +41,12 @@ impl From<LineFault> for FrameFault {
     }
 }
 
-impl LineFault {
-    /// The number of this refusal.
-    pub fn number(self) -> u8
-        ensures { result ≡ line_number self }
-    {
-        match self {
+/// The number of a line's refusal.
+impl From<LineFault> for u8 {
+    ghost from_gives = { λ e r. r ≡ line_number e };
+
+    fn from(fault: LineFault) -> u8 {
+        match fault {
             LineFault::TooLong => 10,
             LineFault::NotDigit { .. } => 11,
             LineFault::Odd { .. } => 12,
@@ -54,13 +54,13 @@ impl LineFault {
     }
 }
 
-impl FrameFault {
-    /// The number of this refusal.
-    pub fn number(self) -> u8
-        ensures { result ≡ frame_number self }
-    {
-        match self {
-            FrameFault::Line(fault) => fault.number(),
+/// The number of a frame's refusal.
+impl From<FrameFault> for u8 {
+    ghost from_gives = { λ e r. r ≡ frame_number e };
+
+    fn from(fault: FrameFault) -> u8 {
+        match fault {
+            FrameFault::Line(fault) => u8::from(fault),
             FrameFault::TooShort => 13,
             FrameFault::WrongSum => 14,
             FrameFault::UnknownKind => 15,
@@ -69,11 +69,11 @@ impl FrameFault {
     }
 }
 
-impl ShortBuffer {
-    /// The number of this refusal.
-    pub fn number(self) -> u8
-        ensures { result ≡ buffer_number self }
-    {
+/// The number of the refusal to write.
+impl From<ShortBuffer> for u8 {
+    ghost from_gives = { λ e r. r ≡ buffer_number e };
+
+    fn from(_fault: ShortBuffer) -> u8 {
         17
     }
 }

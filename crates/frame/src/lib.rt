@@ -9,9 +9,12 @@ mod digits;
 pub mod fault;
 mod row;
 
+use digits::Digits;
 pub use fault::{FrameFault, LineFault, ShortBuffer};
+use row::Row;
 
 /// What a line says. Coordinates, reach and total have two bytes, every other field has one.
+/// A planariser, a host and an end are numbers here: every value of their byte is in some line that reads.
 #[derive(Clone, Copy, PartialEq, Eq, Debug)]
 pub enum Frame {
     /// A map. Planariser 1 keeps the Gabriel graph, 2 the relative neighbourhood graph; host 1 scans, 2 keeps a table.
@@ -57,10 +60,8 @@ pub fn read_line(line: &[u8]) -> Result<Frame, FrameFault>
     ensures answer { result ≡ reads line.now }
     ensures only_text { OnlyText line.now result }
 {
-    digits::check_digits(line)?;
-    let mut room = [0; digits::MOST_BYTES];
-    let count = digits::pair_up(line, &mut room);
-    row::read_row(&room[0..count])
+    let row = Row::from(Digits::try_from(line)?);
+    row::read_row(row.as_slice())
 }
 
 /// Writes the line of a frame into a buffer, with no line feed, and tells how many characters it has.
@@ -69,5 +70,5 @@ pub fn write_line(frame: Frame, buf: &mut [u8]) -> Result<usize, ShortBuffer>
     ensures buffer { buf.new ≡ held (text frame) buf.old }
     ensures reads_back { ReadsBack frame buf.new result }
 {
-    row::write_frame(frame, buf)
+    digits::write_row(&row::row_of(frame), buf)
 }

@@ -1,22 +1,66 @@
 //! Frames as rows of bytes, the check byte last.
-ghost use Rattle.std.specs.Prelude.{◌≡◌, ◌<◌, length, Ok};
-ghost use Rattle.std.specs.List.{AllByRecursion};
-ghost use Rattle.frame.specs.Digits.{spelled};
+ghost use Rattle.std.specs.Prelude.{◌≡◌, ◌<◌, ◌≤◌, [], ◌∷◌, ◌++◌, length, All};
 ghost use Rattle.frame.specs.Frames.{body, by_kind, check, checked, frame_in};
-ghost use Rattle.frame.specs.Lines.{text, told, held};
 
-use crate::fault::{FrameFault, ShortBuffer};
-use crate::{Frame, digits};
+use crate::Frame;
+use crate::fault::FrameFault;
+use std::marker::Model;
+
+/// The most bytes that a line can spell.
+const MOST_BYTES: usize = 40;
+
+/// A row of bytes, few enough for a line, in memory of a fixed size.
+#[derive(Drop)]
+pub struct Row {
+    bytes: [u8; MOST_BYTES],
+    count: usize,
+}
+
+impl Model for Row {
+    ghost use Rattle.std.specs.Prelude.{ℕ, ◌≤◌, List, take};
+    ghost use Rattle.frame.specs.declared.row.TheConstants.{MOST_BYTES};
+
+    ghost Value = { List ℕ };
+
+    ghost view = { λ r. take r.count r.bytes };
+
+    ghost invariant = { λ r. r.count ≤ MOST_BYTES };
+}
+
+impl Row {
+    /// A row with no bytes.
+    pub fn new() -> Row
+        ensures { result ≡ [] }
+    {
+        Row {
+            bytes: [0; MOST_BYTES],
+            count: 0,
+        }
+    }
+
+    /// Puts a byte behind the others.
+    pub fn push(&mut self, byte: u8)
+        requires { length self.old < MOST_BYTES }
+        ensures { self.new ≡ self.old ++ byte ∷ [] }
+    {
+        self.bytes[self.count] = byte;
+        self.count += 1;
+    }
+
+    /// The bytes.
+    pub fn as_slice(&self) -> &[u8]
+        ensures bytes { result.now ≡ self.now }
+        ensures short { length self.now ≤ MOST_BYTES }
+    {
+        &self.bytes[..self.count]
+    }
+}
 
 /// The check byte of a row: its sum, modulo 256.
 fn check_byte(row: &[u8]) -> u8
     ensures { result ≡ check row.now }
 {
-    let mut sum: u8 = 0;
-    for byte in row {
-        sum = sum.wrapping_add(*byte);
-    }
-    sum
+    row.iter().fold(0, |sum: u8, byte| sum.wrapping_add(*byte))
 }
 
 /// The frame in a row whose check byte is right.
@@ -71,28 +115,24 @@ pub fn read_row(row: &[u8]) -> Result<Frame, FrameFault>
     }
 }
 
-/// Writes the digits of a row and of its check byte.
-fn write_row(row: &[u8], buf: &mut [u8]) -> Result<usize, ShortBuffer>
-    ensures answer { result ≡ told (spelled (checked row.now)) buf.old }
-    ensures buffer { buf.new ≡ held (spelled (checked row.now)) buf.old }
-    ensures bytes { AllByRecursion (λ b. b < 256) row.now }
+/// The row of some bytes and their check byte.
+fn with_check(front: &[u8]) -> Row
+    requires { length front.now < MOST_BYTES }
+    ensures row { result ≡ checked front.now }
+    ensures bytes { All (λ b. b < 256) front.now }
 {
-    if buf.len() / 2 <= row.len() {
-        return Err(ShortBuffer);
+    let mut row = Row::new();
+    for byte in front {
+        row.push(*byte);
     }
-    for (at, byte) in row.iter().enumerate() {
-        digits::write_byte(*byte, at, buf);
-    }
-    digits::write_byte(check_byte(row), row.len(), buf);
-    Ok(2 * (row.len() + 1))
+    row.push(check_byte(front));
+    row
 }
 
-/// Writes a frame by its kind, which leaves a row of bytes, short enough for a line, that is read as the frame.
-pub fn write_frame(frame: Frame, buf: &mut [u8]) -> Result<usize, ShortBuffer>
-    ensures answer { result ≡ told (text frame) buf.old }
-    ensures buffer { buf.new ≡ held (text frame) buf.old }
-    ensures bytes { AllByRecursion (λ b. b < 256) (body frame) }
-    ensures size { (0 < length (body frame)) × (length (body frame) < 40) }
+/// The row of a frame, which is short enough for a line, and is read as the frame.
+pub fn row_of(frame: Frame) -> Row
+    ensures row { result ≡ checked (body frame) }
+    ensures bytes { All (λ b. b < 256) (body frame) }
     ensures back { by_kind (checked (body frame)) ≡ Ok frame }
 {
     match frame {
@@ -102,17 +142,17 @@ pub fn write_frame(frame: Frame, buf: &mut [u8]) -> Result<usize, ShortBuffer>
             host,
         } => {
             let [rh, rl] = reach.to_be_bytes();
-            write_row(&[0x4d, rh, rl, planariser, host], buf)
+            with_check(&[0x4d, rh, rl, planariser, host])
         }
         Frame::Node { x, y } => {
             let [xh, xl] = x.to_be_bytes();
             let [yh, yl] = y.to_be_bytes();
-            write_row(&[0x4e, xh, xl, yh, yl], buf)
+            with_check(&[0x4e, xh, xl, yh, yl])
         }
-        Frame::Packet { source, target } => write_row(&[0x50, source, target], buf),
-        Frame::Withdraw { node } => write_row(&[0x57, node], buf),
-        Frame::Return { node } => write_row(&[0x52, node], buf),
-        Frame::Hop { sender, receiver } => write_row(&[0x48, sender, receiver], buf),
+        Frame::Packet { source, target } => with_check(&[0x50, source, target]),
+        Frame::Withdraw { node } => with_check(&[0x57, node]),
+        Frame::Return { node } => with_check(&[0x52, node]),
+        Frame::Hop { sender, receiver } => with_check(&[0x48, sender, receiver]),
         Frame::End {
             source,
             target,
@@ -120,7 +160,7 @@ pub fn write_frame(frame: Frame, buf: &mut [u8]) -> Result<usize, ShortBuffer>
             total,
         } => {
             let [th, tl] = total.to_be_bytes();
-            write_row(&[0x44, source, target, end, th, tl], buf)
+            with_check(&[0x44, source, target, end, th, tl])
         }
     }
 }

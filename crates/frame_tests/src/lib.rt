@@ -99,7 +99,7 @@ mod tests {
             written(&rt, frame, text, text.len());
             written(&rt, frame, text, ROOM);
         }
-        assert_eq!(rt; ShortBuffer.number(), 17);
+        assert_eq!(rt; u8::from(ShortBuffer), 17);
     }
 
     #[test]
@@ -126,8 +126,8 @@ mod tests {
         ];
         for (line, fault, number) in cases {
             assert_eq!(rt; read_line(line), Err(FrameFault::Line(fault)));
-            assert_eq!(rt; fault.number(), number);
-            assert_eq!(rt; FrameFault::Line(fault).number(), number);
+            assert_eq!(rt; u8::from(fault), number);
+            assert_eq!(rt; u8::from(FrameFault::Line(fault)), number);
         }
     }
 
@@ -149,7 +149,7 @@ mod tests {
         ];
         for (line, fault, number) in cases {
             assert_eq!(rt; read_line(line), Err(fault));
-            assert_eq!(rt; fault.number(), number);
+            assert_eq!(rt; u8::from(fault), number);
         }
     }
 

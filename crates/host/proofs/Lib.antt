@@ -1,3 +1,4 @@
 pub mod Links
 pub mod Bits
 pub mod Mending
+pub mod Asking

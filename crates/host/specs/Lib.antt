@@ -4,3 +4,4 @@ pub mod Rows
 pub mod Making
 pub mod Laws
 pub mod Radios
+pub mod Remaining

@@ -3,7 +3,7 @@ use Rattle.std.specs.Prelude.{◌≡◌, ℕ, zero, suc, ◌<◌, ◌≤◌, Boo
 use Rattle.std.proofs.Common.{sym, ap, ◌∙◌, arith}
 use Rattle.plane.specs.declared.Point.{Point}
 use Rattle.floor.specs.declared.node.Radio.{Radio}
-use Rattle.floor.specs.Lists.{nth}
+use Rattle.std.specs.List.{slice_get}
 use Rattle.floor.specs.Charted.{Charted}
 use Rattle.floor.specs.Map.{points_of}
 use Rattle.floor.proofs.Charting.{charted}
@@ -16,7 +16,7 @@ use Rattle.host.specs.Storeys.{radios, meaning_of}
 abbrev pub meant : ℕ → List Point → List Bool → Meaning
 meant reach ps marks = record { reach = reach; nodes = radios ps marks }
 
-nth_past : {A : Type 0} (xs : List A) (i : ℕ) → length xs ≤ i → nth xs i ≡ None
+nth_past : {A : Type 0} (xs : List A) (i : ℕ) → length xs ≤ i → slice_get xs i ≡ None
 nth_past [] i h = refl
 nth_past (x ∷ xs) zero h = absurd (omega arith)
 nth_past (x ∷ xs) (suc i) h = nth_past xs i (omega arith)
@@ -30,7 +30,7 @@ abbrev pub served : Bool → Option Point → Option Radio
 served mark None = None
 served mark (Some p) = Some (record { point = p; serving = mark })
 
-pub nth_radios : (ps : List Point) (marks : List Bool) (i : ℕ) → nth (radios ps marks) i ≡ served (slice_index_or marks i false) (nth ps i)
+pub nth_radios : (ps : List Point) (marks : List Bool) (i : ℕ) → slice_get (radios ps marks) i ≡ served (slice_index_or marks i false) (slice_get ps i)
 nth_radios [] marks i = refl
 nth_radios (p ∷ ps) [] zero = refl
 nth_radios (p ∷ ps) [] (suc i) = nth_radios ps [] i
@@ -41,10 +41,10 @@ place_served : (mark : Bool) (o : Option Point) → place_of (served mark o) ≡
 place_served mark None = refl
 place_served mark (Some p) = refl
 
-pub place_radios : (ps : List Point) (marks : List Bool) (i : ℕ) → place_of (nth (radios ps marks) i) ≡ nth ps i
-place_radios ps marks i = ap place_of (nth_radios ps marks i) ∙ place_served (slice_index_or marks i false) (nth ps i)
+pub place_radios : (ps : List Point) (marks : List Bool) (i : ℕ) → place_of (slice_get (radios ps marks) i) ≡ slice_get ps i
+place_radios ps marks i = ap place_of (nth_radios ps marks i) ∙ place_served (slice_index_or marks i false) (slice_get ps i)
 
-pub radio_past : (ps : List Point) (marks : List Bool) (i : ℕ) → length ps ≤ i → nth (radios ps marks) i ≡ None
+pub radio_past : (ps : List Point) (marks : List Bool) (i : ℕ) → length ps ≤ i → slice_get (radios ps marks) i ≡ None
 radio_past ps marks i past = nth_radios ps marks i ∙ ap (served (slice_index_or marks i false)) (nth_past ps i past)
 
 -- the nodes of a map form a map, whatever their marks
@@ -58,7 +58,7 @@ mapped_radios reach ps marks charted = record {
   };
 }
   where
-    at : (i : ℕ) (p : Point) → point_at (meant reach ps marks) i ≡ Some p → nth ps i ≡ Some p
+    at : (i : ℕ) (p : Point) → point_at (meant reach ps marks) i ≡ Some p → slice_get ps i ≡ Some p
     at i p e = sym (place_radios ps marks i) ∙ e
 
 pub mapped_storey : (s : Storey) → Mapped (meaning_of s)
@@ -70,16 +70,16 @@ radios_all [] n h = refl
 radios_all (p ∷ ps) zero h = absurd (omega arith)
 radios_all (p ∷ ps) (suc n) h = ap (λ (rest : List Radio). record { point = p; serving = true } ∷ rest) (radios_all ps n (omega arith))
 
-nth_in : {A : Type 0} (xs : List A) (i : ℕ) → i < length xs → (x : A) × (nth xs i ≡ Some x)
+nth_in : {A : Type 0} (xs : List A) (i : ℕ) → i < length xs → (x : A) × (slice_get xs i ≡ Some x)
 nth_in [] i h = absurd (omega arith)
 nth_in (x ∷ xs) zero h = (x, refl)
 nth_in (x ∷ xs) (suc i) h = nth_in xs i (omega arith)
 
-radios_set : (ps : List Point) (marks : List Bool) (i : ℕ) (mark : Bool) (p : Point) → nth ps i ≡ Some p → i < length marks → radios ps (slice_set marks i mark) ≡ slice_set (radios ps marks) i (record { point = p; serving = mark })
-radios_set [] marks i mark p e h = let z : ◌≡◌ {A = ℕ} 0 1 = cc in absurd (omega arith)
+radios_set : (ps : List Point) (marks : List Bool) (i : ℕ) (mark : Bool) (p : Point) → slice_get ps i ≡ Some p → i < length marks → radios ps (slice_set marks i mark) ≡ slice_set (radios ps marks) i (record { point = p; serving = mark })
+radios_set [] marks i mark p e h = cc
 radios_set (q ∷ ps) [] i mark p e h = absurd (omega arith)
 radios_set (q ∷ ps) (b ∷ marks) zero mark p e h =
-    let same : q ≡ p = cc in ap (λ (x : Point). record { point = x; serving = mark } ∷ radios ps marks) same
+    cc
 radios_set (q ∷ ps) (b ∷ marks) (suc i) mark p e h =
     ap (λ (rest : List Radio). record { point = q; serving = b } ∷ rest) (radios_set ps marks i mark p e (omega arith))
 
@@ -97,19 +97,19 @@ mark_past reach ps marks i mark past =
     let m = meant reach ps marks in
     sym (ap (marked m i mark) (radio_past ps marks i past))
 
-pub nth_below : {A : Type 0} (xs : List A) (i : ℕ) (x : A) → nth xs i ≡ Some x → i < length xs
-nth_below [] i x e = let z : ◌≡◌ {A = ℕ} 0 1 = cc in absurd (omega arith)
+pub nth_below : {A : Type 0} (xs : List A) (i : ℕ) (x : A) → slice_get xs i ≡ Some x → i < length xs
+nth_below [] i x e = cc
 nth_below (y ∷ ys) zero x e = omega arith
 nth_below (y ∷ ys) (suc i) x e = let h = nth_below ys i x e in omega (arith, h)
 
 -- switched and switched back
-set_back : {A : Type 0} (xs : List A) (i : ℕ) (x y : A) → nth xs i ≡ Some y → slice_set (slice_set xs i x) i y ≡ xs
+set_back : {A : Type 0} (xs : List A) (i : ℕ) (x y : A) → slice_get xs i ≡ Some y → slice_set (slice_set xs i x) i y ≡ xs
 set_back [] i x y e = refl
-set_back (z ∷ zs) zero x y e = let same : y ≡ z = cc in ap (λ h. h ∷ zs) same
+set_back (z ∷ zs) zero x y e = cc
 set_back (z ∷ zs) (suc i) x y e = ap (λ rest. z ∷ rest) (set_back zs i x y e)
 
-nth_set : {A : Type 0} (xs : List A) (i : ℕ) (x y : A) → nth xs i ≡ Some y → nth (slice_set xs i x) i ≡ Some x
-nth_set [] i x y e = let z : ◌≡◌ {A = ℕ} 0 1 = cc in absurd (omega arith)
+nth_set : {A : Type 0} (xs : List A) (i : ℕ) (x y : A) → slice_get xs i ≡ Some y → slice_get (slice_set xs i x) i ≡ Some x
+nth_set [] i x y e = cc
 nth_set (z ∷ zs) zero x y e = refl
 nth_set (z ∷ zs) (suc i) x y e = nth_set zs i x y e
 

@@ -3,6 +3,7 @@
 #![tactic(auto)]
 
 pub mod making;
+pub mod neighbours;
 mod rows;
 pub mod scan;
 pub mod sides;

@@ -1,11 +1,12 @@
-//! When no host is made of a map.
+//! Making a host of a map.
 ghost use Rattle.std.specs.Prelude.{◌≡◌};
-ghost use Rattle.host.specs.Making.{number_of};
+ghost use Rattle.host.specs.Making.{number_of, Made};
 
+use crate::sides::Switching;
 use floor::map::Map;
 
 /// Why a host was not made.
-#[derive(Clone, Copy)]
+#[derive(Clone, Copy, PartialEq, Eq, Debug)]
 pub enum MakeRefusal {
     /// The reach is 0 or above 46,340.
     ReachOutOfRange,
@@ -18,12 +19,19 @@ pub struct Unmade {
     pub map: Map,
 }
 
-impl MakeRefusal {
-    /// The number of the refusal.
-    pub fn number(self) -> u8
-        ensures { result ≡ number_of self }
-    {
-        match self {
+/// A switching host that is made of a map.
+pub trait Making: Switching + Sized {
+    /// A host with that reach of a map's nodes, all in service.
+    fn make(map: Map, reach: u16) -> Result<Self, Unmade>
+        ensures { Made Self.Reading.meaning map reach result };
+}
+
+/// The number of the refusal.
+impl From<MakeRefusal> for u8 {
+    ghost from_gives = { λ e r. r ≡ number_of e };
+
+    fn from(refusal: MakeRefusal) -> u8 {
+        match refusal {
             MakeRefusal::ReachOutOfRange => 31,
         }
     }

@@ -1,7 +1,6 @@
 //! Rows of bits.
 ghost use Rattle.std.specs.Prelude.{◌≡◌, ℕ, ◌<◌, ◌≢◌};
-ghost use Rattle.floor.specs.Meaning.{neighbours, is_among};
-ghost use Rattle.host.specs.Rows.{bit, RowsRight, NextBit};
+ghost use Rattle.host.specs.Rows.{bit, RowsRight, NextBit, Mended};
 ghost use Rattle.host.specs.Storeys.{meaning_of};
 
 use crate::storey::Storey;
@@ -24,22 +23,16 @@ impl Rows {
         rows
     }
 
-    // Bit j of row i.
-    fn has(&self, i: u8, j: u8) -> bool
-        requires { (i < 64) × (j < 64) }
-        ensures { result ≡ bit self.now.row i j }
-    {
-        (self.row[i as usize] >> j) & 1 == 1
-    }
-
     // Sets bit j of row i, or clears it.
     fn put(&mut self, i: u8, j: u8, on: bool)
         requires { (i < 64) × (j < 64) }
         ensures there { bit self.new.row i j ≡ on }
         ensures else_same { (a b : ℕ) → (a ≡ i → b ≢ j) → bit self.new.row a b ≡ bit self.old.row a b }
     {
-        if self.has(i, j) != on {
-            self.row[i as usize] ^= 1 << j;
+        if on {
+            self.row[i as usize] |= 1 << j;
+        } else {
+            self.row[i as usize] &= !(1 << j);
         }
     }
 
@@ -47,23 +40,21 @@ impl Rows {
     pub(crate) fn next(&self, i: u8, j: u8) -> Option<u8>
         ensures { NextBit self.now.row i j result }
     {
-        if i >= 64 || j >= 64 {
-            return None;
+        let rest = self.row.get(usize::from(i))?.checked_shr(u32::from(j))?;
+        match rest {
+            0 => None,
+            _ => Some(j + rest.trailing_zeros() as u8),
         }
-        let rest = self.row[i as usize] >> j;
-        if rest == 0 {
-            return None;
-        }
-        Some(j + rest.trailing_zeros() as u8)
     }
 
-    /// Mends the bits of node i, its own row and its bit in every other, by who its neighbours are now.
+    /// Mends the bits of node i, its own row and its bit in every other, by who its neighbours are now; there are none
+    /// of a number past the rows.
     pub(crate) fn mend(&mut self, storey: &Storey, i: u8)
-        requires { i < 64 }
-        ensures own { (b : ℕ) → b < 64 → bit self.new.row i b ≡ is_among (neighbours (meaning_of storey.now) i) b }
-        ensures others { (a : ℕ) → a < 64 → bit self.new.row a i ≡ is_among (neighbours (meaning_of storey.now) a) i }
-        ensures else_same { (a b : ℕ) → (a ≢ i) → (b ≢ i) → bit self.new.row a b ≡ bit self.old.row a b }
+        ensures { Mended (meaning_of storey.now) i self.old.row self.new.row }
     {
+        if i >= 64 {
+            return;
+        }
         for k in 0..64 {
             let on = storey.links(i, k);
             self.put(i, k, on);

@@ -1,9 +1,8 @@
 //! The scan host.
-ghost use Rattle.host.specs.Making.{Made};
 ghost use Rattle.host.specs.Storeys.{meaning_of};
 ghost use Rattle.host.specs.Radios.{mapped_storey};
 
-use crate::making::Unmade;
+use crate::making::{Making, Unmade};
 use crate::sides::{Reading, Switching};
 use crate::storey::Storey;
 use floor::map::Map;
@@ -13,16 +12,6 @@ use floor::node::{Node, Radio};
 #[derive(Drop)]
 pub struct ScanHost {
     storey: Storey,
-}
-
-impl ScanHost {
-    /// A host with that reach of a map's nodes, all in service.
-    pub fn make(map: Map, reach: u16) -> Result<ScanHost, Unmade>
-        ensures { Made (λ h. meaning_of h.storey) map reach result }
-    {
-        let storey = Storey::make(map, reach)?;
-        Ok(ScanHost { storey })
-    }
 }
 
 impl Reading for ScanHost {
@@ -39,21 +28,20 @@ impl Reading for ScanHost {
     }
 
     fn next_neighbour(&self, i: u8, j: u8) -> Option<Node> {
-        for k in j..self.storey.count() {
-            if self.storey.links(i, k) {
-                return self.storey.node(k);
-            }
-        }
-        None
+        let k = (j..self.storey.count()).find(|k| self.storey.links(i, *k))?;
+        self.storey.node(k)
     }
 }
 
 impl Switching for ScanHost {
-    fn withdraw(&mut self, i: u8) {
-        self.storey.mark(i, false);
+    fn switch(&mut self, i: u8, serving: bool) {
+        self.storey.mark(i, serving);
     }
+}
 
-    fn restore(&mut self, i: u8) {
-        self.storey.mark(i, true);
+impl Making for ScanHost {
+    fn make(map: Map, reach: u16) -> Result<ScanHost, Unmade> {
+        let storey = Storey::make(map, reach)?;
+        Ok(ScanHost { storey })
     }
 }

@@ -27,13 +27,23 @@ pub trait Reading {
 
 /// The switching side: one node is withdrawn or returned.
 pub trait Switching: Reading {
+    /// Takes node i out of service or puts it into service; a number that is no node alters nothing.
+    fn switch(&mut self, i: u8, serving: bool)
+        ensures { Self.Reading.meaning self.new ≡ with_mark (Self.Reading.meaning self.old) i serving };
+
     /// Takes node i out of service; a number that is no node alters nothing.
     fn withdraw(&mut self, i: u8)
-        ensures { Self.Reading.meaning self.new ≡ with_mark (Self.Reading.meaning self.old) i false };
+        ensures { Self.Reading.meaning self.new ≡ with_mark (Self.Reading.meaning self.old) i false }
+    {
+        self.switch(i, false);
+    }
 
     /// Puts node i into service; a number that is no node alters nothing.
     fn restore(&mut self, i: u8)
-        ensures { Self.Reading.meaning self.new ≡ with_mark (Self.Reading.meaning self.old) i true };
+        ensures { Self.Reading.meaning self.new ≡ with_mark (Self.Reading.meaning self.old) i true }
+    {
+        self.switch(i, true);
+    }
 }
 
 /// What holds of every switching: a node that is switched back is as it was, and so is everything else.

@@ -17,6 +17,7 @@ const LONGEST_REACH: u16 = 46_340;
 pub(crate) struct Storey {
     reach: u16,
     map: Map,
+    // Not in one list with the points: a host is made of a map with no further memory, so making it cannot run out of memory.
     serving: [bool; 64],
 }
 
@@ -57,33 +58,24 @@ impl Storey {
     pub(crate) fn radio(&self, i: u8) -> Option<Radio>
         ensures { result ≡ radio (meaning_of self.now) i }
     {
-        match self.map.node(i) {
-            Some(point) => Some(Radio {
-                point,
-                serving: self.serving[i as usize],
-            }),
-            None => None,
-        }
+        self.map.node(i).map(|point| Radio {
+            point,
+            serving: self.serving[i as usize],
+        })
     }
 
     /// Node i, by number and point.
     pub(crate) fn node(&self, i: u8) -> Option<Node>
         ensures { result ≡ node (meaning_of self.now) i }
     {
-        match self.map.node(i) {
-            Some(point) => Some(Node { number: i, point }),
-            None => None,
-        }
+        self.map.node(i).map(|point| Node { number: i, point })
     }
 
     /// Whether nodes i and k are neighbours.
     pub(crate) fn links(&self, i: u8, k: u8) -> bool
         ensures { result ≡ is_among (neighbours (meaning_of self.now) i) k }
     {
-        let Some(p) = self.radio(i) else {
-            return false;
-        };
-        let Some(q) = self.radio(k) else {
+        let (Some(p), Some(q)) = (self.radio(i), self.radio(k)) else {
             return false;
         };
         i != k && hears(self.reach, p, q)

@@ -1,12 +1,9 @@
 //! The table host.
-ghost use Rattle.std.specs.Prelude.{◌≡◌};
-ghost use Rattle.host.specs.Making.{Made};
-ghost use Rattle.host.specs.Questions.{with_mark};
 ghost use Rattle.host.specs.Rows.{RowsRight};
 ghost use Rattle.host.specs.Storeys.{meaning_of};
 ghost use Rattle.host.specs.Radios.{mapped_storey};
 
-use crate::making::Unmade;
+use crate::making::{Making, Unmade};
 use crate::rows::Rows;
 use crate::sides::{Reading, Switching};
 use crate::storey::Storey;
@@ -19,27 +16,6 @@ pub struct TableHost {
     storey: Storey,
     rows: Rows,
     ghost right: { RowsRight (meaning_of storey) rows.row },
-}
-
-impl TableHost {
-    /// A host with that reach of a map's nodes, all in service.
-    pub fn make(map: Map, reach: u16) -> Result<TableHost, Unmade>
-        ensures { Made (λ h. meaning_of h.storey) map reach result }
-    {
-        let storey = Storey::make(map, reach)?;
-        let rows = Rows::of(&storey);
-        Ok(TableHost { storey, rows })
-    }
-
-    // Sets the mark of node i, and mends the rows.
-    fn switch(&mut self, i: u8, serving: bool)
-        ensures { meaning_of self.new.storey ≡ with_mark (meaning_of self.old.storey) i serving }
-    {
-        self.storey.mark(i, serving);
-        if i < 64 {
-            self.rows.mend(&self.storey, i);
-        }
-    }
 }
 
 impl Reading for TableHost {
@@ -56,19 +32,21 @@ impl Reading for TableHost {
     }
 
     fn next_neighbour(&self, i: u8, j: u8) -> Option<Node> {
-        match self.rows.next(i, j) {
-            Some(k) => self.storey.node(k),
-            None => None,
-        }
+        self.storey.node(self.rows.next(i, j)?)
     }
 }
 
 impl Switching for TableHost {
-    fn withdraw(&mut self, i: u8) {
-        self.switch(i, false);
+    fn switch(&mut self, i: u8, serving: bool) {
+        self.storey.mark(i, serving);
+        self.rows.mend(&self.storey, i);
     }
+}
 
-    fn restore(&mut self, i: u8) {
-        self.switch(i, true);
+impl Making for TableHost {
+    fn make(map: Map, reach: u16) -> Result<TableHost, Unmade> {
+        let storey = Storey::make(map, reach)?;
+        let rows = Rows::of(&storey);
+        Ok(TableHost { storey, rows })
     }
 }

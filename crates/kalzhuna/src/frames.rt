@@ -1,18 +1,20 @@
 //! A floor and a packet go through lines of hexadecimal digits before the packet is sent.
-use crate::floors::{Floor, TAIL};
+use crate::hosts::HostKind;
 use crate::packets::sent;
 use face::packet::Packet;
 use face::record::Record;
 use floor::map::Map;
 use floor::planariser::Planariser;
-use floor::planariser::gabriel::Gabriel;
-use floor::planariser::relative::Relative;
+use floor::planariser::rule::Rule;
 use frame::{Frame, read_line, write_line};
+use host::making::Making;
 use host::scan::ScanHost;
 use host::sides::Reading;
 use host::table::TableHost;
+use kept::links::KeptGraph;
 use plane::Point;
-use std::io;
+use std::{io, iter};
+use worked::{Floor, TAIL};
 
 // Lines that say no frame.
 const BAD_LINES: [&str; 9] = [
@@ -32,12 +34,25 @@ const BAD_LINES: [&str; 9] = [
 struct Job {
     map: Map,
     reach: u16,
-    planariser: u8,
-    host: u8,
-    ends: (u8, u8),
+    rule: Option<Rule>,
+    kind: Option<HostKind>,
+    source: u8,
+    target: u8,
 }
 
 impl Job {
+    // What is known before the first frame: nothing.
+    fn new(map: Map) -> Job {
+        Job {
+            map,
+            reach: 0,
+            rule: None,
+            kind: None,
+            source: 0,
+            target: 0,
+        }
+    }
+
     // Takes what a frame tells; a point that cannot be placed is left out.
     fn take(&mut self, frame: Frame) {
         match frame {
@@ -47,18 +62,27 @@ impl Job {
                 host,
             } => {
                 self.reach = reach;
-                self.planariser = planariser;
-                self.host = host;
+                self.rule = Rule::try_from(planariser).ok();
+                self.kind = HostKind::try_from(host).ok();
             }
             Frame::Node { x, y } => {
                 let _ = self.map.place(Point { x, y });
             }
             Frame::Packet { source, target } => {
-                self.ends = (source, target);
+                self.source = source;
+                self.target = target;
             }
             Frame::Withdraw { .. } | Frame::Return { .. } | Frame::Hop { .. } | Frame::End { .. } =>
                 {}
         }
+    }
+
+    // Takes a frame that has gone through its line.
+    fn hand_over(&mut self, rt: &impl Print, frame: Frame) -> io::Result<()> {
+        if let Some(back) = through_line(rt, frame)? {
+            self.take(back);
+        }
+        Ok(())
     }
 }
 
@@ -68,101 +92,63 @@ fn through_line(rt: &impl Print, frame: Frame) -> io::Result<Option<Frame>> {
     let Ok(len) = write_line(frame, &mut buf) else {
         return Ok(None);
     };
-    let line = &buf[0..len.min(80)];
+    let line = &buf[0..len];
     if let Ok(text) = std::str::from_utf8(line) {
         println!(rt; "{text}")?;
     }
-    match read_line(line) {
-        Ok(back) => Ok(Some(back)),
-        Err(_) => Ok(None),
-    }
-}
-
-// A frame goes through its line to a job.
-fn hand_over(rt: &impl Print, job: &mut Job, frame: Frame) -> io::Result<()> {
-    if let Some(back) = through_line(rt, frame)? {
-        job.take(back);
-    }
-    Ok(())
+    Ok(read_line(line).ok())
 }
 
 // Sends the packet of a record to its end, and tells each hop and the end by frames.
-fn tell_hops<'a, R: Reading, P: Planariser>(
+fn tell_hops<R: Reading, P: Planariser>(
     rt: &impl Print,
-    host: &'a R,
-    planariser: &'a P,
+    graph: KeptGraph<'_, R, P>,
     record: Record,
 ) -> io::Result<()> {
-    let mut record = record;
-    for _ in 0..u16::MAX {
-        let Some(next) = sent(host, planariser, record) else {
-            break;
+    let mut last = record;
+    let sends = iter::successors(sent(graph, record), |record| sent(graph, *record));
+    for next in sends.take(usize::from(u16::MAX)) {
+        let hop = Frame::Hop {
+            sender: last.holder,
+            receiver: next.holder,
         };
-        through_line(
-            rt,
-            Frame::Hop {
-                sender: record.holder,
-                receiver: next.holder,
-            },
-        )?;
-        record = next;
+        through_line(rt, hop)?;
+        last = next;
     }
     let end = Frame::End {
-        source: record.source.number,
-        target: record.target.number,
-        end: record.end.number(),
-        total: record.total,
+        source: last.source.number,
+        target: last.target.number,
+        end: u8::from(last.end),
+        total: last.total,
     };
     through_line(rt, end)?;
     Ok(())
 }
 
-// Opens a packet over a host, and sends it to its end.
-fn tell_packet<'a, R: Reading, P: Planariser>(
-    rt: &impl Print,
-    host: &'a R,
-    planariser: &'a P,
-    ends: (u8, u8),
-) -> io::Result<()> {
-    match Packet::open(host, planariser, ends.0, ends.1) {
-        Ok(packet) => tell_hops(rt, host, planariser, packet.put_by()),
+// Does a job over a host of its kind.
+fn tell_over<H: Making + Drop>(rt: &impl Print, job: Job) -> io::Result<()> {
+    let Ok(host) = H::make(job.map, job.reach) else {
+        return println!(rt; "no host is made");
+    };
+    let Some(rule) = job.rule else {
+        return println!(rt; "there is no such planariser");
+    };
+    let graph = KeptGraph {
+        host: &host,
+        planariser: &rule,
+    };
+    match Packet::open(graph, job.source, job.target) {
+        Ok(packet) => tell_hops(rt, graph, packet.put_by()),
         Err(_) => println!(rt; "no packet is opened"),
     }
 }
 
-// Sends a job's packet over a host, under the planariser of that number.
-fn tell_over<R: Reading>(
-    rt: &impl Print,
-    host: &R,
-    planariser: u8,
-    ends: (u8, u8),
-) -> io::Result<()> {
-    match planariser {
-        1 => tell_packet(rt, host, &Gabriel, ends),
-        2 => tell_packet(rt, host, &Relative, ends),
-        _ => println!(rt; "there is no such planariser"),
-    }
-}
-
-// Does a job over the host of its number.
+// Does a job.
 fn tell_job(rt: &impl Print, job: Job) -> io::Result<()> {
-    let Job {
-        map,
-        reach,
-        planariser,
-        host,
-        ends,
-    } = job;
-    match host {
-        1 => match ScanHost::make(map, reach) {
-            Ok(host) => tell_over(rt, &host, planariser, ends),
-            Err(_) => println!(rt; "no host is made"),
-        },
-        2 => match TableHost::make(map, reach) {
-            Ok(host) => tell_over(rt, &host, planariser, ends),
-            Err(_) => println!(rt; "no host is made"),
-        },
-        _ => println!(rt; "there is no such host"),
+    match job.kind {
+        Some(HostKind::Scan) => tell_over::<ScanHost>(rt, job),
+        Some(HostKind::Table) => tell_over::<TableHost>(rt, job),
+        None => println!(rt; "there is no such host"),
     }
 }
 
@@ -170,8 +156,7 @@ fn tell_job(rt: &impl Print, job: Job) -> io::Result<()> {
 fn tell_bad_lines(rt: &impl Print) -> io::Result<()> {
     for line in BAD_LINES {
         if let Err(fault) = read_line(line.as_bytes()) {
-            let number = fault.number();
-            println!(rt; "'{line}' is refused with {number}")?;
+            println!(rt; "'{line}' is refused with {}", u8::from(fault))?;
         }
     }
     Ok(())
@@ -179,40 +164,26 @@ fn tell_bad_lines(rt: &impl Print) -> io::Result<()> {
 
 // Hands a floor and a packet over by frames.
 fn hand_floor(rt: &impl Print, job: &mut Job, floor: Floor) -> io::Result<()> {
-    let reach = floor.reach;
-    hand_over(
-        rt,
-        job,
-        Frame::Map {
-            reach,
-            planariser: 2,
-            host: 1,
-        },
-    )?;
-    for (x, y) in floor.points {
-        hand_over(rt, job, Frame::Node { x: *x, y: *y })?;
+    let map = Frame::Map {
+        reach: floor.reach,
+        planariser: 2,
+        host: 1,
+    };
+    job.hand_over(rt, map)?;
+    for (x, y) in floor.coordinates {
+        job.hand_over(rt, Frame::Node { x: *x, y: *y })?;
     }
-    hand_over(
-        rt,
-        job,
-        Frame::Packet {
-            source: 0,
-            target: 3,
-        },
-    )
+    let packet = Frame::Packet {
+        source: 0,
+        target: 3,
+    };
+    job.hand_over(rt, packet)
 }
 
 /// The account of frames.
 pub fn tell(rt: &(impl Print + AllocGlobal)) -> io::Result<()> {
     println!(rt; "Frames")?;
-    let map = Map::new(rt.alloc())?;
-    let mut job = Job {
-        map,
-        reach: 0,
-        planariser: 0,
-        host: 0,
-        ends: (0, 0),
-    };
+    let mut job = Job::new(Map::new(rt.alloc())?);
     hand_floor(rt, &mut job, TAIL)?;
     tell_job(rt, job)?;
     tell_bad_lines(rt)

@@ -4,11 +4,12 @@
 
 use std::io;
 
-mod floors;
 mod frames;
+mod hosts;
 mod packets;
 mod pasts;
 mod placing;
+mod refusals;
 mod story;
 mod thinning;
 

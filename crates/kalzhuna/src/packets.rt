@@ -1,16 +1,17 @@
 //! Packets are sent to their ends, hop by hop.
-use crate::floors::{CROWD, Floor, HALF_RING, MIDDLE, TAIL, TAIL_AWAY};
+use crate::hosts::{HostKind, OfKind};
+use crate::refusals::tell_refusal;
 use delivery::deliver;
 use face::packet::{Packet, Refusal, Unsent};
-use face::record::{End, Record};
+use face::record::Record;
 use floor::planariser::Planariser;
-use floor::planariser::gabriel::Gabriel;
-use floor::planariser::relative::Relative;
+use floor::planariser::rule::Rule;
 use host::scan::ScanHost;
-use host::sides::{Reading, Switching};
+use host::sides::Reading;
 use host::table::TableHost;
-use kept::links::kept_links;
-use std::io;
+use kept::links::KeptGraph;
+use std::{io, iter};
+use worked::{CROWD, Floor, HALF_RING, MIDDLE, TAIL, TAIL_AWAY};
 
 /// A packet to be sent over a floor, one node of which may be withdrawn before.
 #[derive(Clone, Copy)]
@@ -85,134 +86,104 @@ const ERRANDS: [Errand; 10] = [
     },
 ];
 
-/// How a packet stands, in words.
-pub fn in_words(end: End) -> &'static str {
-    match end {
-        End::UnderWay => "under way",
-        End::Delivered => "delivered",
-        End::Unreachable => "unreachable",
-    }
-}
-
-/// Forwards and receives the packet of a record once; none where it has ended or cannot be forwarded.
-pub fn sent<'a, R: Reading, P: Planariser>(
-    host: &'a R,
-    planariser: &'a P,
+/// The record of a packet after one send more; none where it has ended or cannot be forwarded.
+pub fn sent<R: Reading, P: Planariser>(
+    graph: KeptGraph<'_, R, P>,
     record: Record,
 ) -> Option<Record> {
     match Packet::take_up(record) {
-        Packet::Ended(ended) => {
-            ended.file();
-            None
-        }
-        Packet::Held(held) => match held.forward(host, planariser) {
-            Ok(flight) => Some(flight.receive(host, planariser).put_by()),
+        Packet::Held(held) => match held.hop(graph) {
+            Ok(packet) => Some(packet.put_by()),
             Err(Unsent { why: _, held }) => {
                 held.set_aside();
                 None
             }
         },
+        Packet::Ended(ended) => {
+            ended.file();
+            None
+        }
     }
 }
 
 // Sends the packet of a record to its end, and tells each receiver.
-fn tell_hops<'a, R: Reading, P: Planariser>(
+fn tell_hops<R: Reading, P: Planariser>(
     rt: &impl Print,
-    host: &'a R,
-    planariser: &'a P,
+    graph: KeptGraph<'_, R, P>,
     record: Record,
 ) -> io::Result<()> {
-    let mut record = record;
-    for _ in 0..u16::MAX {
-        let Some(next) = sent(host, planariser, record) else {
-            break;
-        };
-        record = next;
-        let at = record.holder;
-        print!(rt; " {at}")?;
+    let sends = iter::successors(sent(graph, record), |record| sent(graph, *record));
+    for record in sends.take(usize::from(u16::MAX)) {
+        print!(rt; " {}", record.holder)?;
     }
     Ok(())
 }
 
-// Runs a packet in one call, with three sends for each kept link, and tells its end and total.
-fn tell_end<R: Reading, P: Planariser>(
+// The record of an errand's packet when it is opened, and at its end: that one is run to in one call.
+fn run<R: Reading, P: Planariser>(
+    graph: KeptGraph<'_, R, P>,
+    errand: Errand,
+    budget: u16,
+) -> Result<(Record, Record), Refusal> {
+    let opened = Packet::open(graph, errand.source, errand.target)?.put_by();
+    let ended = deliver(graph, errand.source, errand.target, budget)?;
+    Ok((opened, ended))
+}
+
+// Tells an errand's packet, with three sends for each kept link: its receivers, end and total, or the number of the refusal.
+fn tell_packet<R: Reading, P: Planariser>(
     rt: &impl Print,
-    host: &R,
-    planariser: &P,
+    graph: KeptGraph<'_, R, P>,
     errand: Errand,
 ) -> io::Result<()> {
-    let budget = kept_links(host, planariser).saturating_mul(3);
-    match deliver(host, planariser, errand.source, errand.target, budget) {
-        Ok(record) => {
-            let (end, total) = (in_words(record.end), record.total);
-            println!(rt; ", {end} after {total} of at most {budget}")
+    let budget = graph.kept_links().saturating_mul(3);
+    match run(graph, errand, budget) {
+        Ok((opened, ended)) => {
+            tell_hops(rt, graph, opened)?;
+            println!(rt; ", {} after {} of at most {budget}", ended.end, ended.total)
         }
-        Err(refusal) => tell_refusal(rt, refusal),
-    }
-}
-
-// Tells the number of a refusal.
-fn tell_refusal(rt: &impl Print, refusal: Refusal) -> io::Result<()> {
-    let number = refusal.number();
-    println!(rt; " refused with {number}")
-}
-
-// Opens a packet over a host, and tells its run or the number of the refusal.
-fn tell_packet<'a, R: Reading, P: Planariser>(
-    rt: &impl Print,
-    host: &'a R,
-    planariser: &'a P,
-    errand: Errand,
-) -> io::Result<()> {
-    let (source, target) = (errand.source, errand.target);
-    print!(rt; "{source} to {target}:")?;
-    match Packet::open(host, planariser, source, target) {
-        Ok(packet) => {
-            tell_hops(rt, host, planariser, packet.put_by())?;
-            tell_end(rt, host, planariser, errand)
+        Err(refusal) => {
+            print!(rt; " ")?;
+            tell_refusal(rt, refusal)
         }
-        Err(refusal) => tell_refusal(rt, refusal),
     }
 }
 
-// Tells the floor of an errand, and which node it is without.
-fn tell_floor(rt: &impl Print, errand: Errand) -> io::Result<()> {
-    let name = errand.floor.name;
-    match errand.without {
-        Some(node) => print!(rt; "{name} without {node}"),
-        None => print!(rt; "{name}"),
+// Tells what is sent: on which floor, without which node, over which host and under which planariser.
+fn tell_errand(rt: &impl Print, errand: Errand, kind: HostKind, rule: Rule) -> io::Result<()> {
+    print!(rt; "{}", errand.floor.name)?;
+    if let Some(node) = errand.without {
+        print!(rt; " without {node}")?;
     }
+    print!(rt; ", {kind}, {rule}, {} to {}:", errand.source, errand.target)
 }
 
-// Withdraws what an errand withdraws, and tells its packet under both planarisers.
-fn tell_both<S: Switching>(
-    rt: &impl Print,
-    host: &mut S,
-    kind: &str,
-    errand: Errand,
-) -> io::Result<()> {
+// Withdraws what an errand withdraws from a host of its floor, and tells its packet under each planariser.
+fn tell_over<H: OfKind>(rt: &(impl Print + AllocGlobal), errand: Errand) -> io::Result<()> {
+    let floor = errand.floor;
+    let Ok(mut host) = H::make(floor.map(rt.alloc())?, floor.reach) else {
+        return Ok(());
+    };
     if let Some(node) = errand.without {
         host.withdraw(node);
     }
-    tell_floor(rt, errand)?;
-    print!(rt; ", {kind}, Gabriel, ")?;
-    tell_packet(rt, host, &Gabriel, errand)?;
-    tell_floor(rt, errand)?;
-    print!(rt; ", {kind}, relative, ")?;
-    tell_packet(rt, host, &Relative, errand)
+    for rule in [Rule::Gabriel, Rule::Relative] {
+        tell_errand(rt, errand, H::KIND, rule)?;
+        let graph = KeptGraph {
+            host: &host,
+            planariser: &rule,
+        };
+        tell_packet(rt, graph, errand)?;
+    }
+    Ok(())
 }
 
 /// The account of packets.
 pub fn tell(rt: &(impl Print + AllocGlobal)) -> io::Result<()> {
     println!(rt; "Packets")?;
     for errand in ERRANDS {
-        let floor = errand.floor;
-        if let Ok(mut host) = ScanHost::make(floor.map(rt.alloc())?, floor.reach) {
-            tell_both(rt, &mut host, "scan", errand)?;
-        }
-        if let Ok(mut host) = TableHost::make(floor.map(rt.alloc())?, floor.reach) {
-            tell_both(rt, &mut host, "table", errand)?;
-        }
+        tell_over::<ScanHost>(rt, errand)?;
+        tell_over::<TableHost>(rt, errand)?;
     }
     Ok(())
 }

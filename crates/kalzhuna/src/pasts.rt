@@ -1,15 +1,14 @@
 //! A past of a network: its calls, and what each is answered.
-use crate::packets::in_words;
-use face::record::Phase;
+use crate::refusals::tell_refusal;
 use floor::planariser::Planariser;
 use host::sides::Switching;
 use network::list::LentList;
 use network::network::Network;
-use network::types::{HopRecord, Refusal, Stopper};
-use std::io;
+use network::types::{HopRecord, Refusal};
+use std::{fmt, io};
 
 /// A call of a network. A carry is lent room for so many hops, at most 16.
-#[derive(Clone, Copy)]
+#[derive(Clone, Copy, PartialEq, Eq, Debug)]
 pub enum Call {
     Open { line: u8, source: u8, target: u8 },
     Hop { line: u8 },
@@ -19,28 +18,23 @@ pub enum Call {
     Return { node: u8 },
 }
 
-// What a hop list is lent before there are hops.
-const NO_HOP: HopRecord = HopRecord {
-    sender: 0,
-    receiver: 0,
-    phase: Phase::Round,
-};
-
-// The phase before a send, in a word.
-fn phase_name(phase: Phase) -> &'static str {
-    match phase {
-        Phase::Round => "Round",
-        Phase::Ahead => "Ahead",
-        Phase::Back => "Back",
-    }
-}
-
-// What stopped a carry, in words.
-fn stopper_name(stopper: Stopper) -> &'static str {
-    match stopper {
-        Stopper::Ended => "the end",
-        Stopper::Budget => "the budget",
-        Stopper::Full => "the full list",
+/// What is asked, with its numbers.
+impl fmt::Display for Call {
+    fn fmt<W: fmt::Write>(&self, f: &mut fmt::Formatter<W>) -> fmt::Result {
+        match *self {
+            Call::Open {
+                line,
+                source,
+                target,
+            } => write!(f, "open on line {line}, {source} to {target}"),
+            Call::Hop { line } => write!(f, "hop on line {line}"),
+            Call::Carry { line, budget, room } => {
+                write!(f, "carry on line {line}, budget {budget}, room {room}")
+            }
+            Call::Collect { line } => write!(f, "collect from line {line}"),
+            Call::Withdraw { node } => write!(f, "withdraw {node}"),
+            Call::Return { node } => write!(f, "return {node}"),
+        }
     }
 }
 
@@ -52,53 +46,6 @@ fn tell_done(rt: &impl Print, done: &str, answer: Result<(), Refusal>) -> io::Re
     }
 }
 
-// Tells the number of a refusal.
-fn tell_refusal(rt: &impl Print, refusal: Refusal) -> io::Result<()> {
-    let number = refusal.number();
-    println!(rt; "refused with {number}")
-}
-
-// Hops, and tells sender and receiver.
-fn tell_hop<H: Switching, P: Planariser>(
-    rt: &impl Print,
-    network: &mut Network<H, P>,
-    line: u8,
-) -> io::Result<()> {
-    match network.hop(line) {
-        Ok((sender, receiver)) => println!(rt; "{sender} to {receiver}"),
-        Err(refusal) => tell_refusal(rt, refusal),
-    }
-}
-
-// Collects, and tells end and total.
-fn tell_collect<H: Switching, P: Planariser>(
-    rt: &impl Print,
-    network: &mut Network<H, P>,
-    line: u8,
-) -> io::Result<()> {
-    match network.collect(line) {
-        Ok((end, total)) => {
-            let end = in_words(end);
-            println!(rt; "{end} after {total}")
-        }
-        Err(refusal) => tell_refusal(rt, refusal),
-    }
-}
-
-// Tells the hops that a list has.
-fn tell_hops(rt: &impl Print, hops: &[HopRecord]) -> io::Result<()> {
-    for hop in hops {
-        let HopRecord {
-            sender,
-            receiver,
-            phase,
-        } = *hop;
-        let phase = phase_name(phase);
-        print!(rt; " {sender} to {receiver} {phase},")?;
-    }
-    Ok(())
-}
-
 // Carries, and tells the hops and what stopped them.
 fn tell_carry<H: Switching, P: Planariser>(
     rt: &impl Print,
@@ -107,35 +54,17 @@ fn tell_carry<H: Switching, P: Planariser>(
     budget: u16,
     room: u8,
 ) -> io::Result<()> {
-    let mut memory = [NO_HOP; 16];
+    let mut memory = [HopRecord::default(); 16];
     let mut list = LentList::new(&mut memory[0..usize::from(room).min(16)]);
-    match network.carry(line, budget, &mut list) {
-        Ok(carried) => {
-            let (hops, stopper) = (carried.hops, stopper_name(carried.stopper));
-            print!(rt; "{hops} hops,")?;
-            tell_hops(rt, list.as_slice())?;
-            println!(rt; " stopped by {stopper}")
-        }
-        Err(refusal) => tell_refusal(rt, refusal),
+    let carried = match network.carry(line, budget, &mut list) {
+        Ok(carried) => carried,
+        Err(refusal) => return tell_refusal(rt, refusal),
+    };
+    print!(rt; "{} hops,", carried.hops)?;
+    for hop in list.as_slice() {
+        print!(rt; " {} to {} {},", hop.sender, hop.receiver, hop.phase)?;
     }
-}
-
-// Tells a call, with its numbers.
-fn tell_asked(rt: &impl Print, call: Call) -> io::Result<()> {
-    match call {
-        Call::Open {
-            line,
-            source,
-            target,
-        } => print!(rt; "open on line {line}, {source} to {target}: "),
-        Call::Hop { line } => print!(rt; "hop on line {line}: "),
-        Call::Carry { line, budget, room } => print!(rt;
-            "carry on line {line}, budget {budget}, room {room}: "
-        ),
-        Call::Collect { line } => print!(rt; "collect from line {line}: "),
-        Call::Withdraw { node } => print!(rt; "withdraw {node}: "),
-        Call::Return { node } => print!(rt; "return {node}: "),
-    }
+    println!(rt; " stopped by {}", carried.stopper)
 }
 
 // Makes a call, and tells its answer.
@@ -150,9 +79,15 @@ fn tell_answer<H: Switching, P: Planariser>(
             source,
             target,
         } => tell_done(rt, "opened", network.open(line, source, target)),
-        Call::Hop { line } => tell_hop(rt, network, line),
+        Call::Hop { line } => match network.hop(line) {
+            Ok((sender, receiver)) => println!(rt; "{sender} to {receiver}"),
+            Err(refusal) => tell_refusal(rt, refusal),
+        },
         Call::Carry { line, budget, room } => tell_carry(rt, network, line, budget, room),
-        Call::Collect { line } => tell_collect(rt, network, line),
+        Call::Collect { line } => match network.collect(line) {
+            Ok((end, total)) => println!(rt; "{end} after {total}"),
+            Err(refusal) => tell_refusal(rt, refusal),
+        },
         Call::Withdraw { node } => tell_done(rt, "done", network.withdraw(node)),
         Call::Return { node } => tell_done(rt, "done", network.restore(node)),
     }
@@ -165,7 +100,7 @@ pub fn tell_past<H: Switching, P: Planariser>(
     past: &[Call],
 ) -> io::Result<()> {
     for call in past {
-        tell_asked(rt, *call)?;
+        print!(rt; "{call}: ")?;
         tell_answer(rt, network, *call)?;
     }
     Ok(())

@@ -1,12 +1,16 @@
 //! Nodes are placed, and told with their numbers; so are the links of those that hear each other.
-use crate::floors::HALF_RING;
+use crate::refusals::tell_refusal;
 use floor::map::Map;
+use floor::node::Node;
+use host::making::Making;
+use host::neighbours::Neighbours;
 use host::scan::ScanHost;
 use host::sides::Reading;
 use network::list::{AppendRefusal, LentList};
 use network::types::LinkRecord;
 use plane::{Point, squared_distance};
 use std::io;
+use worked::HALF_RING;
 
 // Points as they are tried: some are taken, some lie on a line with two others, some are too far out.
 const TRIES: [(u16, u16); 12] = [
@@ -24,35 +28,22 @@ const TRIES: [(u16, u16); 12] = [
     (3, 18),
 ];
 
-// What a list of links is lent before there are links.
-const NO_LINK: LinkRecord = LinkRecord {
-    a: 0,
-    b: 0,
-    squared_length: 0,
-};
-
 // Tries a point, and tells the number of the new node or of the refusal.
-fn tell_placing(rt: &impl Print, map: &mut Map, x: u16, y: u16) -> io::Result<()> {
-    match map.place(Point { x, y }) {
-        Ok(number) => println!(rt; "({x}, {y}) is node {number}"),
-        Err(refusal) => {
-            let number = refusal.number();
-            println!(rt; "({x}, {y}) is refused with {number}")
-        }
+fn tell_placing(rt: &impl Print, map: &mut Map, p: Point) -> io::Result<()> {
+    print!(rt; "({}, {}) is ", p.x, p.y)?;
+    match map.place(p) {
+        Ok(number) => println!(rt; "node {number}"),
+        Err(refusal) => tell_refusal(rt, refusal),
     }
 }
 
-// The link between nodes `i` and `k` of a host, if they are neighbours.
-fn link<R: Reading>(host: &R, i: u8, k: u8) -> Option<LinkRecord> {
+// The link from node `i` of a host to a neighbour.
+fn link_to<R: Reading>(host: &R, i: u8, neighbour: Node) -> Option<LinkRecord> {
     let here = host.radio(i)?;
-    let there = host.next_neighbour(i, k)?;
-    if there.number != k {
-        return None;
-    }
-    let squared_length = u32::try_from(squared_distance(here.point, there.point)).ok()?;
+    let squared_length = u32::try_from(squared_distance(here.point, neighbour.point)).ok()?;
     Some(LinkRecord {
         a: i,
-        b: k,
+        b: neighbour.number,
         squared_length,
     })
 }
@@ -63,10 +54,9 @@ fn list_links<R: Reading>(
     list: &mut LentList<'_, LinkRecord>,
 ) -> Result<(), AppendRefusal> {
     for i in 0..host.count() {
-        for k in i..host.count() {
-            if let Some(link) = link(host, i, k) {
-                list.append(link)?;
-            }
+        let above = Neighbours::numbered_from(host, i, i);
+        for link in above.filter_map(|neighbour| link_to(host, i, neighbour)) {
+            list.append(link)?;
         }
     }
     Ok(())
@@ -74,25 +64,20 @@ fn list_links<R: Reading>(
 
 // Lists the links of a host in room for so many, at most 16, and tells them.
 fn tell_links<R: Reading>(rt: &impl Print, host: &R, room: usize) -> io::Result<()> {
-    let mut memory = [NO_LINK; 16];
+    let mut memory = [LinkRecord::default(); 16];
     let mut list = LentList::new(&mut memory[0..room.min(16)]);
     let answer = list_links(host, &mut list);
     for link in list.as_slice() {
-        let LinkRecord {
-            a,
-            b,
-            squared_length,
-        } = *link;
-        println!(rt; "{a} and {b} hear each other, squared distance {squared_length}")?;
+        println!(rt;
+            "{} and {} hear each other, squared distance {}",
+            link.a, link.b, link.squared_length
+        )?;
     }
     match answer {
-        Ok(()) => {
-            let links = list.as_slice().len();
-            println!(rt; "{links} links")
-        }
+        Ok(()) => println!(rt; "{} links", list.as_slice().len()),
         Err(refusal) => {
-            let number = refusal.number();
-            println!(rt; "the next is refused with {number}")
+            print!(rt; "the next is ")?;
+            tell_refusal(rt, refusal)
         }
     }
 }
@@ -102,10 +87,7 @@ fn tell_host(rt: &impl Print, map: Map, reach: u16, room: usize) -> io::Result<(
     println!(rt; "reach {reach}, room for {room} links:")?;
     match ScanHost::make(map, reach) {
         Ok(host) => tell_links(rt, &host, room),
-        Err(unmade) => {
-            let number = unmade.why.number();
-            println!(rt; "refused with {number}")
-        }
+        Err(unmade) => tell_refusal(rt, unmade.why),
     }
 }
 
@@ -115,20 +97,18 @@ fn tell_full(rt: &(impl Print + AllocGlobal)) -> io::Result<()> {
     for i in 0..64u16 {
         let _ = map.place(Point { x: i, y: i * i });
     }
-    let count = map.count();
-    println!(rt; "{count} nodes on a parabola")?;
-    tell_placing(rt, &mut map, 64, 4096)
+    println!(rt; "{} nodes on a parabola", map.count())?;
+    tell_placing(rt, &mut map, Point { x: 64, y: 4096 })
 }
 
 /// The account of placing.
 pub fn tell(rt: &(impl Print + AllocGlobal)) -> io::Result<()> {
     println!(rt; "Placing")?;
     let mut map = Map::new(rt.alloc())?;
-    for (x, y) in TRIES {
-        tell_placing(rt, &mut map, x, y)?;
+    for coordinates in TRIES {
+        tell_placing(rt, &mut map, Point::from(coordinates))?;
     }
-    let count = map.count();
-    println!(rt; "{count} nodes")?;
+    println!(rt; "{} nodes", map.count())?;
     tell_host(rt, map, HALF_RING.reach, 8)?;
     for (reach, room) in [(0, 8), (46_341, 8), (46_340, 8), (46_340, 16)] {
         tell_host(rt, HALF_RING.map(rt.alloc())?, reach, room)?;

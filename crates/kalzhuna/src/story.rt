@@ -1,11 +1,12 @@
 //! Two pasts. On the first a packet that was delivered is unreachable while a node is withdrawn.
-use crate::floors::{CROWD, HALF_RING};
+use crate::hosts::OfKind;
 use crate::pasts::{Call, tell_past};
-use floor::planariser::gabriel::Gabriel;
+use floor::planariser::rule::Rule;
 use host::scan::ScanHost;
 use host::table::TableHost;
 use network::network::Network;
 use std::io;
+use worked::{CROWD, Floor, HALF_RING};
 
 // Openings on several lines, refusals, a withdrawal and a return.
 const SWITCHED: [Call; 35] = [
@@ -155,15 +156,22 @@ const WALKED: [Call; 9] = [
     Call::Collect { line: 15 },
 ];
 
+// Tells a past on a floor, over a host of it and under the planariser that keeps the Gabriel graph.
+fn tell_over<H: OfKind>(
+    rt: &(impl Print + AllocGlobal),
+    floor: Floor,
+    past: &[Call],
+) -> io::Result<()> {
+    let rule = Rule::Gabriel;
+    println!(rt; "A past on floor {}, {}, {rule}", floor.name, H::KIND)?;
+    let Ok(host) = H::make(floor.map(rt.alloc())?, floor.reach) else {
+        return Ok(());
+    };
+    tell_past(rt, &mut Network::new(host, rule), past)
+}
+
 /// The account of pasts.
 pub fn tell(rt: &(impl Print + AllocGlobal)) -> io::Result<()> {
-    println!(rt; "A past on floor A, table, Gabriel")?;
-    if let Ok(host) = TableHost::make(HALF_RING.map(rt.alloc())?, HALF_RING.reach) {
-        tell_past(rt, &mut Network::new(host, Gabriel), &SWITCHED)?;
-    }
-    println!(rt; "A past on floor D, scan, Gabriel")?;
-    if let Ok(host) = ScanHost::make(CROWD.map(rt.alloc())?, CROWD.reach) {
-        tell_past(rt, &mut Network::new(host, Gabriel), &WALKED)?;
-    }
-    Ok(())
+    tell_over::<TableHost>(rt, HALF_RING, &SWITCHED)?;
+    tell_over::<ScanHost>(rt, CROWD, &WALKED)
 }

@@ -1,14 +1,15 @@
 -- One kept link by one question, and all of them counted
-use Rattle.std.proofs.Common.{◌≡◌, ℕ, zero, suc, ◌+◌, ◌*◌, ◌<◌, ◌≤◌, Bool, true, false, cond, not, ◌&&◌, ◌||◌, eqb, ltb, List, [], ◌∷◌, length, drop, Some, None, Option, sym, refl, ap, ◌∙◌, subst, arith}
+use Rattle.std.proofs.Common.{◌≡◌, ℕ, zero, suc, ◌+◌, ◌*◌, ◌<◌, ◌≤◌, Bool, true, false, cond, not, ◌&&◌, ◌||◌, eqb, leb, ltb, List, [], ◌∷◌, length, drop, Some, None, Option, sym, refl, ap, ◌∙◌, subst, arith}
 use Rattle.floor.specs.declared.node.Node.{Node}
 use Rattle.floor.specs.declared.node.Radio.{Radio}
-use Rattle.floor.specs.Lists.{find, those}
+use Rattle.std.specs.List.{find, filter}
 use Rattle.floor.specs.Meaning.{Meaning, radio, neighbours, node, known_as, is_among}
 use Rattle.floor.specs.Planar.{Blocks}
-use Rattle.host.specs.Questions.{next_neighbour}
+use Rattle.host.specs.Questions.{next_neighbour, numbered_from}
 use Rattle.host.specs.Radios.{nth_below}
 use Rattle.kept.specs.Kept.{blocked, kept, kept_of, kept_neighbours, kept_from, kept_links}
-use Rattle.kept.proofs.Asking.{left_from, asked_none, asked_some}
+use Rattle.std.proofs.lemmas.List.Sums.{length-filter, count_by-le-length}
+use Rattle.host.proofs.Asking.{neighbours_few}
 use Rattle.kept.proofs.Rounding.{if_that, known_is}
 
 -- ---- node i
@@ -71,58 +72,49 @@ module _ (b : Blocks) (m : Meaning) (i j : ℕ) (u : Node) (at : Some u ≡ node
 
 -- ---- the kept neighbours of a node that are numbered above it
 
-those_swap : {A : Type 0} (f g : A → Bool) (xs : List A) → those f (those g xs) ≡ those g (those f xs)
+those_swap : {A : Type 0} (f g : A → Bool) (xs : List A) → filter f (filter g xs) ≡ filter g (filter f xs)
 those_swap f g [] = refl
 those_swap f g (x ∷ xs) = go (f x) refl (g x) refl (those_swap f g xs)
   where
-    go : (s : Bool) → f x ≡ s → (t : Bool) → g x ≡ t → those f (those g xs) ≡ those g (those f xs)
-        → those f (cond t (x ∷ those g xs) (those g xs)) ≡ those g (cond s (x ∷ those f xs) (those f xs))
-    go true p true q rest = ap (λ (r : Bool). cond r (x ∷ those f (those g xs)) (those f (those g xs))) p ∙ ap (◌∷◌ x) rest ∙ sym (ap (λ (r : Bool). cond r (x ∷ those g (those f xs)) (those g (those f xs))) q)
-    go true p false q rest = rest ∙ sym (ap (λ (r : Bool). cond r (x ∷ those g (those f xs)) (those g (those f xs))) q)
-    go false p true q rest = ap (λ (r : Bool). cond r (x ∷ those f (those g xs)) (those f (those g xs))) p ∙ rest
+    go : (s : Bool) → f x ≡ s → (t : Bool) → g x ≡ t → filter f (filter g xs) ≡ filter g (filter f xs)
+        → filter f (cond t (x ∷ filter g xs) (filter g xs)) ≡ filter g (cond s (x ∷ filter f xs) (filter f xs))
+    go true p true q rest = ap (λ (r : Bool). cond r (x ∷ filter f (filter g xs)) (filter f (filter g xs))) p ∙ ap (◌∷◌ x) rest ∙ sym (ap (λ (r : Bool). cond r (x ∷ filter g (filter f xs)) (filter g (filter f xs))) q)
+    go true p false q rest = rest ∙ sym (ap (λ (r : Bool). cond r (x ∷ filter g (filter f xs)) (filter g (filter f xs))) q)
+    go false p true q rest = ap (λ (r : Bool). cond r (x ∷ filter f (filter g xs)) (filter f (filter g xs))) p ∙ rest
     go false p false q rest = rest
 
 abbrev pub above : Blocks → Meaning → ℕ → ℕ
-above b m i = length (those (λ (v : Node). ltb i v.number) (kept_neighbours b m i))
+above b m i = length (filter (λ (v : Node). ltb i v.number) (kept_neighbours b m i))
 
-module _ (b : Blocks) (m : Meaning) (i : ℕ) (u : Node) where
-  -- n of them stand before number j
-  pub record CountedTo (j n : ℕ) : Type 0 where
-    pub few : n ≤ j
-    pub so_far : above b m i ≡ n + length (those (clear b m i u) (left_from j (neighbours m i)))
+filter_few : {A : Type 0} (test : A → Bool) (xs : List A) → length (filter test xs) ≤ length xs
+filter_few test xs = let count = count_by-le-length test xs in let same = length-filter test xs in omega arith
 
-  pub counted_at_first : Some u ≡ node m i → CountedTo (i + 1) 0
-  counted_at_first at =
-      record {
-        few = omega arith;
-        so_far =
-            let e : suc i ≡ i + 1 = omega arith in
-            ap (λ (ns : List Node). length (those (λ (v : Node). ltb i v.number) ns)) (node_kept m i b u at)
-            ∙ ap length (those_swap (λ (v : Node). ltb i v.number) (clear b m i u) (neighbours m i))
-            ∙ ap (λ (k : ℕ). length (those (clear b m i u) (left_from k (neighbours m i)))) e
-            ∙ omega arith;
-      }
+pub few_numbered : (m : Meaning) (i j : ℕ) → length (numbered_from j (neighbours m i)) ≤ length m.nodes
+few_numbered m i j =
+    let left = filter_few (λ (n : Node). leb j n.number) (neighbours m i) in
+    let all = neighbours_few m i in
+    omega arith
 
-  pub counted_at_last : (j n : ℕ) → CountedTo j n → None ≡ next_neighbour m i j → n ≡ above b m i
-  counted_at_last j n c e =
-      let z : length (those (clear b m i u) (left_from j (neighbours m i))) ≡ 0 = ap (λ (ns : List Node). length (those (clear b m i u) ns)) (asked_none m i j e) in
-      omega (arith, c.so_far)
+pub above_few : (b : Blocks) (m : Meaning) (i : ℕ) → above b m i ≤ length m.nodes
+above_few b m i = go (radio m i)
+  where
+    go : (o : Option Radio) → length (filter (λ (v : Node). ltb i v.number) (kept_of b (neighbours m i) o)) ≤ length m.nodes
+    go None = omega arith
+    go (Some r) =
+        let higher = filter_few (λ (v : Node). ltb i v.number) (kept b r.point (neighbours m i)) in
+        let kept_ones = filter_few (λ (v : Node). not (blocked b r.point v (neighbours m i))) (neighbours m i) in
+        let all = neighbours_few m i in
+        omega arith
 
-  pub counted_on : Some u ≡ node m i → (j n : ℕ) (v : Node) (t : Bool) (n' : ℕ) → CountedTo j n → Some v ≡ next_neighbour m i j
-      → t ≡ blocked b u.point v (neighbours m u.number) → n' ≡ cond t n (n + 1) → CountedTo (v.number + 1) n'
-  counted_on at j n v t n' c e k new =
-      let (f, g, h) = asked_some m i j v e in
-      let there : t ≡ blocked b u.point v (neighbours m i) = k ∙ ap (λ (x : ℕ). blocked b u.point v (neighbours m x)) (node_number m i u at) in
-      let rest = those (clear b m i u) (left_from (v.number + 1) (neighbours m i)) in
-      let now : above b m i ≡ n + length (cond (not t) (v ∷ rest) rest) =
-      c.so_far ∙ ap (λ (ns : List Node). n + length (those (clear b m i u) ns)) f ∙ ap (λ (s : Bool). n + length (cond (not s) (v ∷ rest) rest)) (sym there) in
-      subst (CountedTo (v.number + 1)) (sym new) (go t c.few g now)
-    where
-      go : (s : Bool) → n ≤ j → j ≤ v.number
-          → above b m i ≡ n + length (cond (not s) (v ∷ those (clear b m i u) (left_from (v.number + 1) (neighbours m i))) (those (clear b m i u) (left_from (v.number + 1) (neighbours m i))))
-          → CountedTo (v.number + 1) (cond s n (n + 1))
-      go true l g e = record { few = omega arith; so_far = e }
-      go false l g e = record { few = omega arith; so_far = omega arith }
+-- those above it, asked for from the next number on
+pub counted_above : (b : Blocks) (m : Meaning) (i : ℕ) (u : Node) → Some u ≡ node m i
+    → length (filter (λ (v : Node). not (blocked b u.point v (neighbours m u.number))) (numbered_from (i + 1) (neighbours m i))) ≡ above b m i
+counted_above b m i u at =
+    let e : suc i ≡ i + 1 = omega arith in
+    ap (λ (k : ℕ). length (filter (λ (v : Node). not (blocked b u.point v (neighbours m k))) (numbered_from (i + 1) (neighbours m i)))) (node_number m i u at)
+    ∙ sym (ap (λ (ns : List Node). length (filter (λ (v : Node). ltb i v.number) ns)) (node_kept m i b u at)
+    ∙ ap length (those_swap (λ (v : Node). ltb i v.number) (clear b m i u) (neighbours m i))
+    ∙ ap (λ (k : ℕ). length (filter (clear b m i u) (numbered_from k (neighbours m i)))) e)
 
 -- ---- all kept links
 

@@ -6,7 +6,8 @@ use Rattle.plane.specs.declared.Point.{Point}
 use Rattle.plane.specs.Plane.{squared}
 use Rattle.floor.specs.declared.node.Node.{Node}
 use Rattle.floor.specs.declared.node.Radio.{Radio}
-use Rattle.floor.specs.Lists.{differ, some_is}
+use Rattle.std.specs.List.{list_any}
+use Rattle.floor.specs.Lists.{differ}
 use Rattle.floor.specs.Meaning.{Meaning, Serving, radio, neighbours, serving_at}
 use Rattle.floor.specs.Planar.{Blocks, Lawful}
 use Rattle.floor.specs.DiscInLune.{squared_turned}
@@ -25,7 +26,7 @@ module _ (b : Blocks) (m : Meaning) where
 
   -- the kept neighbours are those to which no neighbour blocks the link, at their points
   pub kept_has : (u : ℕ) (n : Node) → Has n (kept_neighbours b m u)
-      → (s : Near m u n.number) × (n.point ≡ s.q) × (some_is (blocker s.p n) (neighbours m u) ≡ false)
+      → (s : Near m u n.number) × (n.point ≡ s.q) × (list_any (blocker s.p n) (neighbours m u) ≡ false)
   kept_has u n h = go (radio m u) refl h
     where
       off : (t : Bool) → not t ≡ true → t ≡ false
@@ -33,27 +34,27 @@ module _ (b : Blocks) (m : Meaning) where
       off false e = refl
 
       go : (o : Option Radio) → radio m u ≡ o → Has n (kept_of b (neighbours m u) o)
-          → (s : Near m u n.number) × (n.point ≡ s.q) × (some_is (blocker s.p n) (neighbours m u) ≡ false)
+          → (s : Near m u n.number) × (n.point ≡ s.q) × (list_any (blocker s.p n) (neighbours m u) ≡ false)
       go None e g = elim g [ ]
       go (Some p) e g =
-          let (i, k) = those_has (λ (v : Node). not (some_is (blocker p.point v) (neighbours m u))) (neighbours m u) n g in
+          let (i, k) = those_has (λ (v : Node). not (list_any (blocker p.point v) (neighbours m u))) (neighbours m u) n g in
           let (s, at) = neighbours_has m u n i in
           let (r, f, on, x) = serving_radio m u s.p s.at_u in
           let same : p.point ≡ s.p = ap (λ (z : Radio). z.point) (same_some p r (sym e ∙ f)) ∙ x in
-          (s, at, ap (λ (z : Point). some_is (blocker z n) (neighbours m u)) (sym same) ∙ off (some_is (blocker p.point n) (neighbours m u)) k)
+          (s, at, ap (λ (z : Point). list_any (blocker z n) (neighbours m u)) (sym same) ∙ off (list_any (blocker p.point n) (neighbours m u)) k)
 
-  pub has_kept : (u v : ℕ) (s : Near m u v) → some_is (blocker s.p (target u v s)) (neighbours m u) ≡ false → Has (target u v s) (kept_neighbours b m u)
+  pub has_kept : (u v : ℕ) (s : Near m u v) → list_any (blocker s.p (target u v s)) (neighbours m u) ≡ false → Has (target u v s) (kept_neighbours b m u)
   has_kept u v s k =
       let (r, f, on, x) = serving_radio m u s.p s.at_u in
       subst (Has (target u v s)) (sym (ap (kept_of b (neighbours m u)) f))
-      (has_those (λ (n : Node). not (some_is (blocker r.point n) (neighbours m u))) (neighbours m u) (target u v s) (has_neighbours m u v s)
-      (ap not (ap (λ (z : Point). some_is (blocker z (target u v s)) (neighbours m u)) x ∙ k)))
+      (has_those (λ (n : Node). not (list_any (blocker r.point n) (neighbours m u))) (neighbours m u) (target u v s) (has_neighbours m u v s)
+      (ap not (ap (λ (z : Point). list_any (blocker z (target u v s)) (neighbours m u)) x ∙ k)))
 
   -- a neighbour that blocks, or a kept link
   pub blocked_or_kept : (u v : ℕ) (s : Near m u v) → ((w : ℕ) × (t : Near m u w) × (¬ (w ≡ v)) × (b s.p s.q t.q ≡ true)) ⊎ Kept b m u v
-  blocked_or_kept u v s = go (some_is (blocker s.p (target u v s)) (neighbours m u)) refl
+  blocked_or_kept u v s = go (list_any (blocker s.p (target u v s)) (neighbours m u)) refl
     where
-      go : (t : Bool) → some_is (blocker s.p (target u v s)) (neighbours m u) ≡ t → ((w : ℕ) × (t : Near m u w) × (¬ (w ≡ v)) × (b s.p s.q t.q ≡ true)) ⊎ Kept b m u v
+      go : (t : Bool) → list_any (blocker s.p (target u v s)) (neighbours m u) ≡ t → ((w : ℕ) × (t : Near m u w) × (¬ (w ≡ v)) × (b s.p s.q t.q ≡ true)) ⊎ Kept b m u v
       go true e =
           let (n, h, k) = some_found (blocker s.p (target u v s)) (neighbours m u) e in
           let (t, at) = neighbours_has m u n h in
@@ -68,7 +69,7 @@ module _ (b : Blocks) (m : Meaning) where
       let (s, at, none) = kept_has u n h in
       move n (is_same n.number v e) s at none
     where
-      move : (n : Node) → n.number ≡ v → (s : Near m u n.number) → n.point ≡ s.q → some_is (blocker s.p n) (neighbours m u) ≡ false
+      move : (n : Node) → n.number ≡ v → (s : Near m u n.number) → n.point ≡ s.q → list_any (blocker s.p n) (neighbours m u) ≡ false
           → (s : Near m u v) × ((w : ℕ) (t : Near m u w) → ¬ (w ≡ v) → b s.p s.q t.q ≡ false)
       move n e s at none =
           subst (λ (v : ℕ). (s : Near m u v) × ((w : ℕ) (t : Near m u w) → ¬ (w ≡ v) → b s.p s.q t.q ≡ false)) e

@@ -1,11 +1,8 @@
 pub mod Lists
 pub mod Near
 pub mod Graph
-pub mod Planarisers
 pub mod Chains
 pub mod Crossing
 pub mod SameLink
-pub mod Asking
-pub mod Blocking
 pub mod Rounding
 pub mod Counting

@@ -1,7 +1,7 @@
 -- What is in a list, and what its tests tell
 use Rattle.std.proofs.Common.{◌≡◌, Bool, true, false, cond, ◌||◌, T, ◌⊎◌, List, [], ◌∷◌, sym, refl, ap, ◌∙◌, subst, inl, inr, true≢false}
 pub use Rattle.order.specs.Foremost.{In as Has}
-use Rattle.floor.specs.Lists.{those, some_is}
+use Rattle.std.specs.List.{filter, list_any}
 
 -- the two readings of a test that holds
 pub holds : {b : Bool} → T b → b ≡ true
@@ -22,37 +22,37 @@ fails {b = true} n = absurd (n refl)
 fails {b = false} n = refl
 
 module _ {A : Type 0} where
-  pub some_found : (test : A → Bool) (xs : List A) → some_is test xs ≡ true → (x : A) × Has x xs × (test x ≡ true)
+  pub some_found : (test : A → Bool) (xs : List A) → list_any test xs ≡ true → (x : A) × Has x xs × (test x ≡ true)
   some_found test [] e = absurd (true≢false (sym e))
   some_found test (x ∷ xs) e = go (test x) refl e (λ h. some_found test xs h)
     where
-      go : (b : Bool) → test x ≡ b → (b || some_is test xs) ≡ true → (some_is test xs ≡ true → (y : A) × Has y xs × (test y ≡ true)) → (y : A) × Has y (x ∷ xs) × (test y ≡ true)
+      go : (b : Bool) → test x ≡ b → (b || list_any test xs) ≡ true → (list_any test xs ≡ true → (y : A) × Has y xs × (test y ≡ true)) → (y : A) × Has y (x ∷ xs) × (test y ≡ true)
       go true q h more = (x, inl refl, q)
       go false q h more = let (y, i, k) = more h in (y, inr i, k)
 
-  pub found_some : (test : A → Bool) (xs : List A) (x : A) → Has x xs → test x ≡ true → some_is test xs ≡ true
+  pub found_some : (test : A → Bool) (xs : List A) (x : A) → Has x xs → test x ≡ true → list_any test xs ≡ true
   found_some test [] x i e = elim i [ ]
-  found_some test (y ∷ ys) x (inl p) e = ap (λ (b : Bool). b || some_is test ys) (ap test (sym p) ∙ e)
+  found_some test (y ∷ ys) x (inl p) e = ap (λ (b : Bool). b || list_any test ys) (ap test (sym p) ∙ e)
   found_some test (y ∷ ys) x (inr i) e = ap (λ (b : Bool). test y || b) (found_some test ys x i e) ∙ go (test y)
     where
       go : (b : Bool) → (b || true) ≡ true
       go true = refl
       go false = refl
 
-  pub those_has : (test : A → Bool) (xs : List A) (x : A) → Has x (those test xs) → Has x xs × (test x ≡ true)
+  pub those_has : (test : A → Bool) (xs : List A) (x : A) → Has x (filter test xs) → Has x xs × (test x ≡ true)
   those_has test [] x i = elim i [ ]
   those_has test (y ∷ ys) x i = go (test y) refl i (λ j. those_has test ys x j)
     where
-      go : (b : Bool) → test y ≡ b → Has x (cond b (y ∷ those test ys) (those test ys)) → (Has x (those test ys) → Has x ys × (test x ≡ true)) → Has x (y ∷ ys) × (test x ≡ true)
+      go : (b : Bool) → test y ≡ b → Has x (cond b (y ∷ filter test ys) (filter test ys)) → (Has x (filter test ys) → Has x ys × (test x ≡ true)) → Has x (y ∷ ys) × (test x ≡ true)
       go true q (inl p) more = (inl p, ap test p ∙ q)
       go true q (inr j) more = let (k, h) = more j in (inr k, h)
       go false q j more = let (k, h) = more j in (inr k, h)
 
-  pub has_those : (test : A → Bool) (xs : List A) (x : A) → Has x xs → test x ≡ true → Has x (those test xs)
+  pub has_those : (test : A → Bool) (xs : List A) (x : A) → Has x xs → test x ≡ true → Has x (filter test xs)
   has_those test [] x i e = elim i [ ]
   has_those test (y ∷ ys) x i e = go (test y) refl i (λ j. has_those test ys x j e)
     where
-      go : (b : Bool) → test y ≡ b → (x ≡ y) ⊎ Has x ys → (Has x ys → Has x (those test ys)) → Has x (cond b (y ∷ those test ys) (those test ys))
+      go : (b : Bool) → test y ≡ b → (x ≡ y) ⊎ Has x ys → (Has x ys → Has x (filter test ys)) → Has x (cond b (y ∷ filter test ys) (filter test ys))
       go true q (inl p) more = inl p
       go true q (inr j) more = inr (more j)
       go false q (inl p) more = absurd (true≢false (sym e ∙ ap test p ∙ q))

@@ -6,7 +6,8 @@ use Rattle.plane.specs.declared.Point.{Point}
 use Rattle.plane.specs.Plane.{squared}
 use Rattle.floor.specs.declared.node.Node.{Node}
 use Rattle.floor.specs.declared.node.Radio.{Radio}
-use Rattle.floor.specs.Lists.{differ, nth}
+use Rattle.std.specs.List.{slice_get}
+use Rattle.floor.specs.Lists.{differ}
 use Rattle.floor.specs.Meaning.{Meaning, radio, neighbours, heard, heard_by, hear, is_among, serving_at, serving_place}
 use Rattle.floor.specs.DiscInLune.{squared_turned}
 use Rattle.kept.specs.Laws.{Near, NeighboursAreNear}
@@ -67,25 +68,25 @@ abbrev pub HeardAt : ℕ → ℕ → Radio → Node → ℕ → Radio → Type 0
 HeardAt reach i p n k q = (n.number ≡ k) × (n.point ≡ q.point) × (differ i k ≡ true) × (hear reach p q ≡ true)
 
 heard_has : (reach i : ℕ) (p : Radio) (j : ℕ) (qs : List Radio) (n : Node) → Has n (heard reach i p j qs)
-    → (k : ℕ) × (q : Radio) × (nth qs k ≡ Some q) × HeardAt reach i p n (j + k) q
+    → (k : ℕ) × (q : Radio) × (slice_get qs k ≡ Some q) × HeardAt reach i p n (j + k) q
 heard_has reach i p j [] n h = elim h [ ]
 heard_has reach i p j (q ∷ qs) n h = go (differ i j && hear reach p q) refl h (λ g. heard_has reach i p (suc j) qs n g)
   where
-    later : (k : ℕ) × (r : Radio) × (nth qs k ≡ Some r) × HeardAt reach i p n (suc j + k) r → (k : ℕ) × (r : Radio) × (nth (q ∷ qs) k ≡ Some r) × HeardAt reach i p n (j + k) r
+    later : (k : ℕ) × (r : Radio) × (slice_get qs k ≡ Some r) × HeardAt reach i p n (suc j + k) r → (k : ℕ) × (r : Radio) × (slice_get (q ∷ qs) k ≡ Some r) × HeardAt reach i p n (j + k) r
     later (k, r, e, s) =
         let shift : suc j + k ≡ j + suc k = omega arith in
         (suc k, r, e, subst (λ (x : ℕ). HeardAt reach i p n x r) shift s)
 
     go : (b : Bool) → (differ i j && hear reach p q) ≡ b → Has n (cond b (record { number = j; point = q.point } ∷ heard reach i p (suc j) qs) (heard reach i p (suc j) qs))
-        → (Has n (heard reach i p (suc j) qs) → (k : ℕ) × (r : Radio) × (nth qs k ≡ Some r) × HeardAt reach i p n (suc j + k) r)
-        → (k : ℕ) × (r : Radio) × (nth (q ∷ qs) k ≡ Some r) × HeardAt reach i p n (j + k) r
+        → (Has n (heard reach i p (suc j) qs) → (k : ℕ) × (r : Radio) × (slice_get qs k ≡ Some r) × HeardAt reach i p n (suc j + k) r)
+        → (k : ℕ) × (r : Radio) × (slice_get (q ∷ qs) k ≡ Some r) × HeardAt reach i p n (j + k) r
     go true e (inl s) more =
         let zeroth : j ≡ j + 0 = omega arith in
         (zero, q, refl, subst (λ (x : ℕ). HeardAt reach i p n x q) zeroth (ap (λ (o : Node). o.number) s, ap (λ (o : Node). o.point) s, (both e).0, (both e).1))
     go true e (inr g) more = later (more g)
     go false e g more = later (more g)
 
-has_heard : (reach i : ℕ) (p : Radio) (j : ℕ) (qs : List Radio) (k : ℕ) (q : Radio) → nth qs k ≡ Some q → differ i (j + k) ≡ true → hear reach p q ≡ true
+has_heard : (reach i : ℕ) (p : Radio) (j : ℕ) (qs : List Radio) (k : ℕ) (q : Radio) → slice_get qs k ≡ Some q → differ i (j + k) ≡ true → hear reach p q ≡ true
     → Has (record { number = j + k; point = q.point }) (heard reach i p j qs)
 has_heard reach i p j [] k q e d h = absurd (some_none q e)
 has_heard reach i p j (r ∷ qs) zero q e d h = go (differ i j && hear reach p r) (pair (ap (differ i) zeroth ∙ d) (ap (hear reach p) (same_some r q e) ∙ h))

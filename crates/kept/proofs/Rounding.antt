@@ -1,26 +1,25 @@
 -- The kept neighbours of a node, asked for one by one: the one of a number, and the first round the node
-use Rattle.std.proofs.Common.{◌≡◌, ℕ, zero, suc, ◌+◌, ◌<◌, ◌≤◌, Bool, true, false, cond, not, ◌&&◌, ◌||◌, eqb, leb, ◌≢◌, ◌⊎◌, List, [], ◌∷◌, length, Some, None, Option, sym, refl, ap, ◌∙◌, subst, ap₂, inl, inr, arith}
+use Rattle.std.proofs.Common.{◌≡◌, ℕ, suc, ◌<◌, Bool, true, false, cond, not, ◌&&◌, eqb, leb, ◌≢◌, List, [], ◌∷◌, length, Some, None, Option, sym, refl, ap, ◌∙◌, subst, ap₂, inl, inr, arith}
 use Rattle.std.proofs.lemmas.Bool.Decides.{nat_tests}
 use Rattle.plane.specs.declared.Point.{Point}
 use Rattle.plane.specs.Plane.{way}
 use Rattle.order.specs.declared.Sense.{Sense}
 use Rattle.order.specs.declared.Start.{Start}
-use Rattle.order.specs.Foremost.{held, foremost, offered}
-use Rattle.order.specs.Directions.{sooner, earlier, direction}
+use Rattle.order.specs.Foremost.{held, foremost, taken, offered}
+use Rattle.order.specs.Directions.{sooner, earlier}
 use Rattle.order.proofs.Sooner.{points_sooner}
 use Rattle.floor.specs.declared.node.Node.{Node}
 use Rattle.floor.specs.declared.node.Radio.{Radio}
-use Rattle.floor.specs.Lists.{differ, find, those}
-use Rattle.floor.specs.Meaning.{Meaning, Mapped, radio, neighbours, point_at, place_of}
+use Rattle.std.specs.List.{find, filter}
+use Rattle.floor.specs.Meaning.{Meaning, Mapped, radio, neighbours, place_of}
 use Rattle.floor.specs.Planar.{Blocks}
 use Rattle.host.specs.Questions.{next_neighbour}
 use Rattle.kept.specs.declared.bearing.Bearing.{Bearing}
 use Rattle.kept.specs.Kept.{blocked, kept, first_round, node_at, node_or_origin}
-use Rattle.kept.specs.Laws.{Near}
 use Rattle.kept.specs.Bearings.{bearing}
 use Rattle.kept.proofs.Lists.{Has, those_has}
 use Rattle.kept.proofs.Near.{neighbours_has, serving_radio}
-use Rattle.kept.proofs.Asking.{Ascends, neighbours_ascend, left_from, asked_first, asked_none, asked_some}
+use Rattle.host.proofs.Asking.{Ascends, neighbours_ascend, asked_some}
 
 clash {ℓ} : {X : Type ℓ} → true ≡ false → X
 clash e = absurd (subst (λ (b : Bool). cond b (Unit {0}) ⊥) e tt)
@@ -33,14 +32,14 @@ if_that q j (Some w) = cond (eqb w.number j && q w) (Some w) None
 
 module _ (q : Node → Bool) (j n : ℕ) where
   abbrev named : List Node → Option Node
-  named xs = find (λ (x : Node). eqb x.number j) (those q xs)
+  named xs = find (λ (x : Node). eqb x.number j) (filter q xs)
 
   -- beyond j there is none of number j
   none_beyond : (k : ℕ) (xs : List Node) → j < k → Ascends k n xs → named xs ≡ None
   none_beyond k [] h a = refl
   none_beyond k (x ∷ xs) h (l, b, a) = go (q x) (eqb x.number j) (grind (arith, nat_tests)) (none_beyond (suc x.number) xs (omega arith) a)
     where
-      go : (t e : Bool) → e ≡ false → named xs ≡ None → find (λ (y : Node). eqb y.number j) (cond t (x ∷ those q xs) (those q xs)) ≡ None
+      go : (t e : Bool) → e ≡ false → named xs ≡ None → find (λ (y : Node). eqb y.number j) (cond t (x ∷ filter q xs) (filter q xs)) ≡ None
       go true e f r = cond_false (eqb x.number j) (grind (arith, nat_tests)) ∙ r
         where
           cond_false : (s : Bool) → s ≡ false → cond s (Some x) (named xs) ≡ named xs
@@ -54,7 +53,7 @@ module _ (q : Node → Bool) (j n : ℕ) where
     where
       go : (t : Bool) → q x ≡ t → (u : Bool) → leb j x.number ≡ u → (e : Bool) → eqb x.number j ≡ e
           → named xs ≡ if_that q j (find (λ (y : Node). leb j y.number) xs) → (j < suc x.number → named xs ≡ None)
-          → find (λ (y : Node). eqb y.number j) (cond t (x ∷ those q xs) (those q xs)) ≡ if_that q j (cond u (Some x) (find (λ (y : Node). leb j y.number) xs))
+          → find (λ (y : Node). eqb y.number j) (cond t (x ∷ filter q xs) (filter q xs)) ≡ if_that q j (cond u (Some x) (find (λ (y : Node). leb j y.number) xs))
       go true qt true ut true et r f = ap (λ (s : Bool). cond s (Some x) (named xs)) et ∙ sym (ap₂ (λ (s z : Bool). cond (s && z) (Some x) None) et qt)
       go true qt true ut false et r f = ap (λ (s : Bool). cond s (Some x) (named xs)) et ∙ f (grind (arith, nat_tests)) ∙ sym (ap (λ (s : Bool). cond (s && q x) (Some x) None) et)
       go true qt false ut true et r f = absurd (grind (arith, nat_tests))
@@ -113,86 +112,68 @@ module _ (b : Blocks) (m : Meaning) (i : ℕ) (sense : Sense) (start : Start) (t
   Made None = Unit {0}
   Made (Some x) = x ≡ bearing sense start p towards x.node
 
-  -- h is the foremost of the kept neighbours before number j
-  pub record ForemostTo (j : ℕ) (h : Option Bearing) : Type 0 where
-    pub so_far : first_round sense start p (way p towards) (kept b p (neighbours m i)) ≡ onward (node_of h) (those clear (left_from j (neighbours m i)))
+  -- h is the foremost of the kept neighbours but for those that are still to come
+  pub record ForemostBut (rest : List Node) (h : Option Bearing) : Type 0 where
+    pub so_far : first_round sense start p (way p towards) (kept b p (neighbours m i)) ≡ onward (node_of h) (filter clear rest)
     pub made : Made h
+    pub apart : (n : Node) → Has n rest → n.point ≢ p
 
-  pub foremost_at_first : (h : Option Bearing) → h ≡ None → ForemostTo 0 h
-  foremost_at_first h e = subst (ForemostTo 0) (sym e)
-      (record { so_far = ap (λ (ns : List Node). foremost before (those clear ns)) (sym (asked_first m i)); made = tt })
+  pub foremost_at_first : Mapped m → (rest : List Node) (h : Option Bearing) → rest ≡ neighbours m i → h ≡ None → ForemostBut rest h
+  foremost_at_first mapped rest h r e = subst (λ (ns : List Node). ForemostBut ns h) (sym r) (subst (ForemostBut (neighbours m i)) (sym e)
+      (record { so_far = refl; made = tt; apart = λ n has. neighbour_apart m mapped i n has }))
 
-  pub foremost_at_last : (j : ℕ) (h : Option Bearing) → ForemostTo j h → None ≡ next_neighbour m i j
-      → node_of h ≡ first_round sense start p (way p towards) (kept b p (neighbours m i))
-  foremost_at_last j h f n = sym (f.so_far ∙ ap (λ (ns : List Node). onward (node_of h) (those clear ns)) (asked_none m i j n) ∙ ended h)
-    where
-      ended : (h : Option Bearing) → onward (node_of h) [] ≡ node_of h
-      ended None = refl
-      ended (Some x) = refl
-
-  abbrev rest_after : Node → List Node
-  rest_after w = those clear (left_from (w.number + 1) (neighbours m i))
-
-  next_of : (j : ℕ) (h : Option Bearing) (w : Node) (s : Bool) → ForemostTo j h → Some w ≡ next_neighbour m i j → blocked b p w (neighbours m i) ≡ s
-      → first_round sense start p (way p towards) (kept b p (neighbours m i)) ≡ onward (node_of h) (cond (not s) (w ∷ rest_after w) (rest_after w))
-  next_of j h w s f n t = f.so_far ∙ ap (λ (ns : List Node). onward (node_of h) (those clear ns)) (asked_some m i j w n).0
-      ∙ ap (λ (s : Bool). onward (node_of h) (cond (not s) (w ∷ rest_after w) (rest_after w))) t
-
-  -- what a neighbour that is asked for gives: nothing where the link is blocked, else its bearing
-  abbrev pub offer_of : Node → Option Bearing
-  offer_of w = cond (blocked b p w (neighbours m i)) None (Some (bearing sense start p towards w))
+  next_of : (rest : List Node) (h : Option Bearing) (w : Node) (s : Bool) → ForemostBut (w ∷ rest) h → blocked b p w (neighbours m i) ≡ s
+      → first_round sense start p (way p towards) (kept b p (neighbours m i)) ≡ onward (node_of h) (cond (not s) (w ∷ filter clear rest) (filter clear rest))
+  next_of rest h w s f t = f.so_far ∙ ap (λ (s : Bool). onward (node_of h) (cond (not s) (w ∷ filter clear rest) (filter clear rest))) t
 
   -- a link that is not kept is passed over
-  pub foremost_past : (j : ℕ) (h : Option Bearing) (w : Node) (h' : Option Bearing) → ForemostTo j h → Some w ≡ next_neighbour m i j → None ≡ offer_of w → h' ≡ h → ForemostTo (w.number + 1) h'
-  foremost_past j h w h' f n t o = go (blocked b p w (neighbours m i)) refl t
-    where
-      go : (s : Bool) → blocked b p w (neighbours m i) ≡ s → None ≡ cond s None (Some (bearing sense start p towards w)) → ForemostTo (w.number + 1) h'
-      go true e r = subst (ForemostTo (w.number + 1)) (sym o) (record { so_far = next_of j h w true f n e; made = f.made })
-      go false e r = absurd (none_not r)
-        where
-          none_not : None ≡ Some (bearing sense start p towards w) → ⊥
-          none_not r = let z : ◌≡◌ {A = ℕ} 0 1 = cc in omega arith
+  pub foremost_past : (rest : List Node) (h : Option Bearing) (w : Node) → ForemostBut (w ∷ rest) h → blocked b p w (neighbours m i) ≡ true → ForemostBut rest h
+  foremost_past rest h w f e = record { so_far = next_of rest h w true f e; made = f.made; apart = λ n has. f.apart n (inr has) }
 
   abbrev sooner_one : Bearing → Bearing → Bool
   sooner_one x y = earlier x.direction y.direction
 
+  -- the bearing of a neighbour
+  abbrev pub given : Node → Bearing
+  given w = bearing sense start p towards w
+
+  same : towards ≢ p → (w : Node) (y : Bearing) → y ≡ bearing sense start p towards y.node → earlier (given w).direction y.direction ≡ before w y.node
+  same far w y e = ap (λ (z : Bearing). earlier (given w).direction z.direction) e ∙ points_sooner sense start p towards w.point y.node.point far
+
+  pick : (w : Node) (s : Bool) (y : Bearing) → node_of (Some (cond s (given w) y)) ≡ Some (cond s w y.node)
+  pick w true y = refl
+  pick w false y = refl
+
+  moved : towards ≢ p → (w : Node) (h : Option Bearing) → Made h → (ys : List Node) → onward (node_of h) (w ∷ ys) ≡ onward (node_of (offered sooner_one h (given w))) ys
+  moved far w None k ys = refl
+  moved far w (Some y) k ys = ap (λ (o : Option Node). onward o ys)
+      (sym (pick w (earlier (given w).direction y.direction) y ∙ ap (λ (s : Bool). Some (cond s w y.node)) (same far w y k)))
+
+  chosen : (w : Node) (s : Bool) (y : Bearing) → y ≡ bearing sense start p towards y.node → Made (Some (cond s (given w) y))
+  chosen w true y k = refl
+  chosen w false y k = k
+
+  made_by : (w : Node) (h : Option Bearing) → Made h → Made (offered sooner_one h (given w))
+  made_by w None k = refl
+  made_by w (Some y) k = chosen w (earlier (given w).direction y.direction) y k
+
   -- a kept one is offered
-  pub foremost_offered : towards ≢ p → (j : ℕ) (h : Option Bearing) (w : Node) (x : Bearing) (h' : Option Bearing) → ForemostTo j h → Some w ≡ next_neighbour m i j
-      → Some x ≡ offer_of w → h' ≡ offered sooner_one h x → ForemostTo (w.number + 1) h'
-  foremost_offered far j h w x h' f n t o = go (blocked b p w (neighbours m i)) refl t
+  pub foremost_offered : towards ≢ p → (rest : List Node) (h : Option Bearing) (w : Node) → ForemostBut (w ∷ rest) h → blocked b p w (neighbours m i) ≡ false
+      → ForemostBut rest (offered sooner_one h (given w))
+  foremost_offered far rest h w f e =
+      record { so_far = next_of rest h w false f e ∙ moved far w h f.made (filter clear rest); made = made_by w h f.made; apart = λ n has. f.apart n (inr has) }
+
+  untaken : (h : Option Bearing) (x : Bearing) → taken sooner_one h x ≡ false → offered sooner_one h x ≡ h
+  untaken None x e = clash e
+  untaken (Some y) x e = ap (λ (s : Bool). Some (cond s x y)) e
+
+  -- one that would not be taken is passed over, kept or not
+  pub foremost_untaken : towards ≢ p → (rest : List Node) (h : Option Bearing) (w : Node) → ForemostBut (w ∷ rest) h → taken sooner_one h (given w) ≡ false → ForemostBut rest h
+  foremost_untaken far rest h w f e = go (blocked b p w (neighbours m i)) refl
     where
-      given : Bearing
-      given = bearing sense start p towards w
-
-      same : (y : Bearing) → y ≡ bearing sense start p towards y.node → earlier given.direction y.direction ≡ before w y.node
-      same y e = ap (λ (z : Bearing). earlier given.direction z.direction) e ∙ points_sooner sense start p towards w.point y.node.point far
-
-      pick : (s : Bool) (y : Bearing) → node_of (Some (cond s given y)) ≡ Some (cond s w y.node)
-      pick true y = refl
-      pick false y = refl
-
-      moved : (h : Option Bearing) → Made h → (ys : List Node) → onward (node_of h) (w ∷ ys) ≡ onward (node_of (offered sooner_one h given)) ys
-      moved None k ys = refl
-      moved (Some y) k ys = ap (λ (o : Option Node). onward o ys)
-          (sym (pick (earlier given.direction y.direction) y ∙ ap (λ (s : Bool). Some (cond s w y.node)) (same y k)))
-
-      chosen : (s : Bool) (y : Bearing) → y ≡ bearing sense start p towards y.node → Made (Some (cond s given y))
-      chosen true y k = refl
-      chosen false y k = k
-
-      made_by : (h : Option Bearing) → Made h → Made (offered sooner_one h given)
-      made_by None k = refl
-      made_by (Some y) k = chosen (earlier given.direction y.direction) y k
-
-      go : (s : Bool) → blocked b p w (neighbours m i) ≡ s → Some x ≡ cond s None (Some given) → ForemostTo (w.number + 1) h'
-      go true e r = absurd (some_not r)
-        where
-          some_not : Some x ≡ None → ⊥
-          some_not r = let z : ◌≡◌ {A = ℕ} 0 1 = cc in omega arith
-      go false e r =
-          let same_x : x ≡ given = cc in
-          subst (ForemostTo (w.number + 1)) (sym (o ∙ ap (offered sooner_one h) same_x))
-          (record { so_far = next_of j h w false f n e ∙ moved h f.made (rest_after w); made = made_by h f.made })
+      go : (s : Bool) → blocked b p w (neighbours m i) ≡ s → ForemostBut rest h
+      go true k = foremost_past rest h w f k
+      go false k = subst (ForemostBut rest) (untaken h (given w) e) (foremost_offered far rest h w f k)
 
 -- the node itself, as the code has it
 pub number_at : (m : Meaning) (i : ℕ) → (node_at m i).number ≡ i
@@ -202,15 +183,18 @@ number_at m i = go (radio m i)
     go None = refl
     go (Some r) = refl
 
-abbrev Offers : Blocks → Meaning → Sense → Start → Point → Node → Option Bearing → Node → ℕ → Type 0
-Offers b m sense start towards w r here i =
-    towards ≢ here.point → w.point ≢ here.point → r ≡ cond (blocked b here.point w (neighbours m i)) None (Some (bearing sense start here.point towards w))
+-- what the code asks of the node as it has it
+pub blocked_there : (b : Blocks) (m : Meaning) (i : ℕ) (w here : Node) (r : Bool) → here ≡ node_at m i
+    → r ≡ blocked b here.point w (neighbours m here.number) → r ≡ blocked b (node_at m i).point w (neighbours m i)
+blocked_there b m i w here r e k =
+    k ∙ ap (λ (n : Node). blocked b n.point w (neighbours m n.number)) e ∙ ap (λ (j : ℕ). blocked b (node_at m i).point w (neighbours m j)) (number_at m i)
 
-pub offered_there : (b : Blocks) (m : Meaning) (i : ℕ) (sense : Sense) (start : Start) (towards : Point) (w : Node) (r : Option Bearing) (here : Node)
-    → here ≡ node_at m i → Offers b m sense start towards w r here here.number → towards ≢ (node_at m i).point → w.point ≢ (node_at m i).point
-    → r ≡ offer_of b m i sense start towards w
-offered_there b m i sense start towards w r here e k far near =
-    subst (Offers b m sense start towards w r (node_at m i)) (number_at m i) (subst (λ (n : Node). Offers b m sense start towards w r n n.number) e k) far near
+abbrev Given : Sense → Start → Point → Node → Option Bearing → Point → Type 0
+Given sense start towards w r at = towards ≢ at → w.point ≢ at → r ≡ Some (bearing sense start at towards w)
+
+pub given_there : (m : Meaning) (i : ℕ) (sense : Sense) (start : Start) (towards : Point) (w : Node) (r : Option Bearing) (here : Node)
+    → here ≡ node_at m i → Given sense start towards w r here.point → Given sense start towards w r (node_at m i).point
+given_there m i sense start towards w r here e k = subst (λ (n : Node). Given sense start towards w r n.point) e k
 
 pub known_there : (b : Blocks) (m : Meaning) (i j : ℕ) (w here : Node) (t : Bool) → here ≡ node_at m i
     → t ≡ (eqb w.number j && not (blocked b here.point w (neighbours m here.number))) → Some w ≡ next_neighbour m i j

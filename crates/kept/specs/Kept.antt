@@ -8,17 +8,18 @@ use Rattle.order.specs.Foremost.{foremost}
 use Rattle.order.specs.Directions.{sooner}
 use Rattle.floor.specs.declared.node.Node.{Node}
 use Rattle.floor.specs.declared.node.Radio.{Radio}
-use Rattle.floor.specs.Lists.{differ, those, some_is}
+use Rattle.std.specs.List.{filter, list_any}
+use Rattle.floor.specs.Lists.{differ}
 use Rattle.floor.specs.Meaning.{Meaning, radio, neighbours, is_among}
 use Rattle.floor.specs.Planar.{Blocks}
 
 -- one of the neighbours of a node at p, other than v, blocks the link to v
 abbrev pub blocked : Blocks → Point → Node → List Node → Bool
-blocked b p v near = some_is (λ (w : Node). differ w.number v.number && b p v.point w.point) near
+blocked b p v near = list_any (λ (w : Node). differ w.number v.number && b p v.point w.point) near
 
 -- of the neighbours of a node at p: those to which no other of them blocks the link
 abbrev pub kept : Blocks → Point → List Node → List Node
-kept b p near = those (λ (v : Node). not (blocked b p v near)) near
+kept b p near = filter (λ (v : Node). not (blocked b p v near)) near
 
 abbrev pub kept_of : Blocks → List Node → Option Radio → List Node
 kept_of b near None = []
@@ -34,7 +35,7 @@ Kept b m i j = T (is_among (kept_neighbours b m i) j)
 -- the kept links of the radios from number i on, each pair counted at its lower number
 abbrev pub kept_from : Blocks → Meaning → ℕ → List Radio → ℕ
 kept_from b m i [] = 0
-kept_from b m i (p ∷ ps) = length (those (λ (v : Node). nat_lt i v.number) (kept_neighbours b m i)) + kept_from b m (suc i) ps
+kept_from b m i (p ∷ ps) = length (filter (λ (v : Node). nat_lt i v.number) (kept_neighbours b m i)) + kept_from b m (suc i) ps
 
 -- K: the number of kept links
 abbrev pub kept_links : Blocks → Meaning → ℕ

@@ -1,7 +1,7 @@
 ghost use Rattle.std.specs.Prelude.{◌≡◌, ◌≢◌, List, Some, None, nat_eq};
 ghost use Rattle.plane.specs.Plane.{way};
 ghost use Rattle.floor.specs.declared.node.Node.{Node};
-ghost use Rattle.floor.specs.Lists.{find};
+ghost use Rattle.std.specs.List.{find};
 ghost use Rattle.kept.specs.Kept.{first_round};
 
 use floor::node::Node;

@@ -7,7 +7,7 @@ use order::direction::Direction;
 use order::keeper::Order;
 
 /// A neighbour, with the direction in which it lies.
-#[derive(Clone, Copy)]
+#[derive(Clone, Copy, Debug)]
 pub struct Bearing {
     pub node: Node,
     pub direction: Direction,

@@ -1,62 +1,88 @@
-ghost use Rattle.std.specs.Prelude.{◌≡◌, length, nat_lt};
-ghost use Rattle.floor.specs.Lists.{those};
-ghost use Rattle.floor.specs.Meaning.{node, is_among};
-ghost use Rattle.kept.specs.Kept.{kept_neighbours, kept_links};
+//! The kept graph of a host under a planariser.
+ghost use Rattle.std.specs.Prelude.{◌≡◌, length, nat_lt, not, ◌&&◌, ◌==◌};
+ghost use Rattle.std.specs.List.{filter};
+ghost use Rattle.floor.specs.Meaning.{node, neighbours, is_among};
+ghost use Rattle.kept.specs.Kept.{blocked, kept_neighbours, kept_links};
 
-use crate::view::{is_blocked, is_kept_as};
+use crate::view::View;
 use floor::node::Node;
 use floor::planariser::Planariser;
+use host::neighbours::Neighbours;
 use host::sides::Reading;
 
-// Node `i` of a host.
-fn node_of<R: Reading>(host: &R, i: u8) -> Option<Node>
-    ensures { result ≡ node (R.Reading.meaning host.now) i }
-{
-    match host.radio(i) {
-        Some(radio) => Some(Node {
+/// A host whose links a planariser thins: what is kept of them is the graph.
+#[derive_where(Clone, Copy)]
+pub struct KeptGraph<'a, R: Reading, P: Planariser> {
+    pub host: &'a R,
+    pub planariser: &'a P,
+}
+
+impl<'a, R: Reading, P: Planariser> KeptGraph<'a, R, P> {
+    /// The view of node `number`.
+    pub fn view(self, number: u8) -> View<'a, R, P>
+        ensures { (result.graph.host.now ≡ self.entry.host.now) × ((result.graph.planariser.now ≡ self.entry.planariser.now) × (result.number ≡ number)) }
+    {
+        View {
+            graph: self,
+            number,
+        }
+    }
+
+    // Node `i` of the host.
+    fn node(self, i: u8) -> Option<Node>
+        ensures { result ≡ node (R.Reading.meaning self.entry.host.now) i }
+    {
+        let radio = self.host.radio(i)?;
+        Some(Node {
             number: i,
             point: radio.point,
-        }),
-        None => None,
+        })
     }
-}
 
-/// Whether the link from node `i` to node `j` is kept; where one of them is no node, it is not.
-pub fn is_kept<R: Reading, P: Planariser>(host: &R, planariser: &P, i: u8, j: u8) -> bool
-    ensures { result ≡ is_among (kept_neighbours (P.Planariser.blocking planariser.now) (R.Reading.meaning host.now) i) j }
-{
-    let Some(u) = node_of(host, i) else {
-        return false
-    };
-    match host.next_neighbour(i, j) {
-        Some(v) => is_kept_as(host, planariser, u, v, j),
-        None => false,
+    // Whether a neighbour of `u` other than `v` blocks the link between them.
+    pub(crate) fn is_blocked(self, u: Node, v: Node) -> bool
+        ensures { result ≡ blocked (P.Planariser.blocking self.entry.planariser.now) u.point v (neighbours (R.Reading.meaning self.entry.host.now) u.number) }
+    {
+        Neighbours::of(self.host, u.number).any(|w| w.number != v.number
+            && self.planariser.blocks(u.point, v.point, w.point))
     }
-}
 
-// The number of kept neighbours of node `i` that are numbered above it.
-fn kept_above<R: Reading, P: Planariser>(host: &R, planariser: &P, i: u8) -> u8
-    ensures { result ≡ length (those (λ v. nat_lt i v.number) (kept_neighbours (P.Planariser.blocking planariser.now) (R.Reading.meaning host.now) i)) }
-{
-    let Some(u) = node_of(host, i) else { return 0 };
-    let mut n = 0;
-    let mut from = i + 1;
-    while let Some(v) = host.next_neighbour(i, from) {
-        if !is_blocked(host, planariser, u, v) {
-            n += 1;
+    // Whether neighbour `v` of `u` has that number and the link to it is kept.
+    pub(crate) fn is_kept_as(self, u: Node, v: Node, number: u8) -> bool
+        ensures { result ≡ (v.number == number) && not (blocked (P.Planariser.blocking self.entry.planariser.now) u.point v (neighbours (R.Reading.meaning self.entry.host.now) u.number)) }
+    {
+        v.number == number && !self.is_blocked(u, v)
+    }
+
+    /// Whether the link from node `i` to node `j` is kept; where one of them is no node, it is not.
+    pub fn is_kept(self, i: u8, j: u8) -> bool
+        ensures { result ≡ is_among (kept_neighbours (P.Planariser.blocking self.entry.planariser.now) (R.Reading.meaning self.entry.host.now) i) j }
+    {
+        let Some(u) = self.node(i) else { return false };
+        let Some(v) = self.host.next_neighbour(i, j) else {
+            return false
+        };
+        self.is_kept_as(u, v, j)
+    }
+
+    // The number of kept neighbours of node `i` that are numbered above it.
+    fn kept_above(self, i: u8) -> u16
+        ensures { result ≡ length (filter (λ v. nat_lt i v.number) (kept_neighbours (P.Planariser.blocking self.entry.planariser.now) (R.Reading.meaning self.entry.host.now) i)) }
+    {
+        let Some(u) = self.node(i) else { return 0 };
+        Neighbours::numbered_from(self.host, i, i + 1)
+            .filter(|v| !self.is_blocked(u, *v))
+            .count() as u16
+    }
+
+    /// The number of kept links.
+    pub fn kept_links(self) -> u16
+        ensures { result ≡ kept_links (P.Planariser.blocking self.entry.planariser.now) (R.Reading.meaning self.entry.host.now) }
+    {
+        let mut total = 0;
+        for i in 0..self.host.count() {
+            total += self.kept_above(i);
         }
-        from = v.number + 1;
+        total
     }
-    n
-}
-
-/// The number of kept links.
-pub fn kept_links<R: Reading, P: Planariser>(host: &R, planariser: &P) -> u16
-    ensures { result ≡ kept_links (P.Planariser.blocking planariser.now) (R.Reading.meaning host.now) }
-{
-    let mut total = 0;
-    for i in 0..host.count() {
-        total += u16::from(kept_above(host, planariser, i));
-    }
-    total
 }

@@ -1,9 +1,9 @@
 -- A packet's life on its line: from its opening to its end it runs over one host, and a past only tells how far
-use Rattle.std.proofs.Common.{◌≡◌, ℕ, suc, ◌<◌, ◌≤◌, min, Bool, true, false, cond, not, ◌||◌, T, eqb, ltb, ◌⊎◌, List, [], ◌∷◌, ◌++◌, map, length, Some, None, Option, sym, refl, ap, ◌∙◌, subst, inl, inr, ⊎_elim, append_assoc, append-nil, arith, eqb-true}
+use Rattle.std.proofs.Common.{◌≡◌, ℕ, suc, ◌<◌, ◌≤◌, min, Bool, true, false, cond, not, ◌||◌, T, eqb, ltb, ◌⊎◌, List, [], ◌∷◌, ◌++◌, map, length, is_some, Some, None, Option, sym, refl, ap, ◌∙◌, subst, inl, inr, ⊎_elim, append_assoc, append-nil, arith, eqb-true}
 use borrow.Author.Tests.{eqb-false}
 use Rattle.std.proofs.lemmas.List.{length_push, map_push}
 use Rattle.std.proofs.lemmas.Bool.{cond_both, cases_lt}
-use Rattle.floor.specs.Lists.{some_is}
+use Rattle.std.specs.List.{list_any}
 use Rattle.floor.specs.Meaning.{Meaning, radio}
 use Rattle.floor.specs.Planar.{Blocks}
 use Rattle.face.specs.declared.record.Link.{Link}
@@ -12,9 +12,10 @@ use Rattle.face.specs.declared.record.End.TheVariants.{UnderWay}
 use Rattle.face.specs.Packet.{send}
 use Rattle.delivery.specs.Law.{after_sends, Made, Standing}
 use Rattle.network.specs.declared.types.HopRecord.{HopRecord}
-use Rattle.network.specs.Network.{Net, Call, On, Withdraw, Return, LineCall, Open, Hop, Carry, Collect, Answer, Hopped, on_line, put, is_some, moving, hop_along, trail, hopped_on, call_on, called, then, answer}
+use Rattle.network.specs.Network.{Net, Call, On, Withdraw, Return, LineCall, Open, Hop, Carry, Collect, Answer, Hopped, on_line, put, moving, hop_along, trail, hopped_on, call_on, called, then, answer}
 use Rattle.network.specs.Law.{Event, Past, net_after, is_on, told_on, send_of, sent_by, all_sent, is_collection}
-use Rattle.network.proofs.Options.{none_some, true_false, some_at}
+use Rattle.std.proofs.lemmas.Bool.{true≢false}
+use Rattle.network.proofs.Options.{some_at}
 use Rattle.network.proofs.Calls.{elsewhere, host_stays, switching, with_host}
 use Rattle.network.proofs.Trails.{first_hop, trail_more, own_call, held_put, lone_hops, as_hops}
 
@@ -40,7 +41,7 @@ module _ (b : Blocks) (h : Meaning) (l : ℕ) (low : ltb 15 l ≡ false) (s t : 
 
   -- with a link in hand it is under way
   under_way : (k : ℕ) → Made b h k r → (j : Link) → (after_sends b h k r).hand ≡ Some j → (after_sends b h k r).end ≡ UnderWay
-  under_way k done j hand = ⊎_elim (λ x. absurd (none_some j (sym x.0 ∙ hand))) (λ x. x.0) (stands k done).goes
+  under_way k done j hand = ⊎_elim (λ x. cc (sym x.0 ∙ hand)) (λ x. x.0) (stands k done).goes
 
   module _ (n : Net) (xs : List (ℕ × ℕ)) (A : Alive n xs) where
     abbrev now_is : Record
@@ -126,13 +127,13 @@ module _ (b : Blocks) (h : Meaning) (l : ℕ) (low : ltb 15 l ≡ false) (s t : 
     on_a_line k c false e u = alive_like n xs A (then b n (On k c)) (elsewhere b n k l c (λ q. eqb-false k l e (sym q))) (host_stays b n k c)
 
     -- marks are set only while it has ended
-    on_a_switch : (m : Meaning) → some_is moving n.lines ≡ false → Alive (with_host b n m) (xs ++ [])
+    on_a_switch : (m : Meaning) → list_any moving n.lines ≡ false → Alive (with_host b n m) (xs ++ [])
     on_a_switch m none = subst (Alive (with_host b n m)) (sym (append-nil xs)) (record {
       k = A.k;
       count = A.count;
       held = A.held;
       done = A.done;
-      same = λ t. absurd (true_false (sym (some_at moving n.lines l (now_is n xs A) A.held t) ∙ none));
+      same = λ t. absurd (true≢false (sym (some_at moving n.lines l (now_is n xs A) A.held t) ∙ none));
       sent = A.sent;
     })
 
@@ -147,16 +148,16 @@ module _ (b : Blocks) (h : Meaning) (l : ℕ) (low : ltb 15 l ≡ false) (s t : 
   neither true y u = absurd u
   neither false y u = (tt, u)
 
-  first_uncollected : (x : Bool) (a : Answer) (rest : List Answer) → T (not (some_is is_collection (cond x (a ∷ rest) rest)))
-      → T (not (cond x (is_collection a) false)) × T (not (some_is is_collection rest))
-  first_uncollected true a rest u = neither (is_collection a) (some_is is_collection rest) u
+  first_uncollected : (x : Bool) (a : Answer) (rest : List Answer) → T (not (list_any is_collection (cond x (a ∷ rest) rest)))
+      → T (not (cond x (is_collection a) false)) × T (not (list_any is_collection rest))
+  first_uncollected true a rest u = neither (is_collection a) (list_any is_collection rest) u
   first_uncollected false a rest u = (tt, u)
 
   first_sent : (x : Bool) (a : Answer) (rest : List Answer) → all_sent (cond x (a ∷ rest) rest) ≡ cond x (sent_by a) [] ++ all_sent rest
   first_sent true a rest = refl
   first_sent false a rest = refl
 
-  pub alive_past : (es : List Event) (n : Net) (xs : List (ℕ × ℕ)) → Alive n xs → Past b n es → T (not (some_is is_collection (told_on l es)))
+  pub alive_past : (es : List Event) (n : Net) (xs : List (ℕ × ℕ)) → Alive n xs → Past b n es → T (not (list_any is_collection (told_on l es)))
       → Alive (net_after b n es) (xs ++ all_sent (told_on l es))
   alive_past [] n xs A p u = alive_none n xs A
   alive_past (e ∷ es) n xs A p u =

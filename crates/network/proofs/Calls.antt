@@ -1,8 +1,8 @@
 -- What a call can do: leave the network as it is, write its line, or set a mark while no packet is under way
-use Rattle.std.proofs.Common.{◌≡◌, ℕ, Bool, true, false, cond, ◌&&◌, ltb, ◌≢◌, List, [], ◌∷◌, length, Some, None, Option, refl, ap, ◌∙◌, length-set, get_or-set_other}
+use Rattle.std.proofs.Common.{◌≡◌, ℕ, Bool, true, false, cond, ◌&&◌, ltb, ◌≢◌, List, [], ◌∷◌, length, is_some, Some, None, Option, refl, ap, ◌∙◌, length-set, get_or-set_other}
 use Rattle.std.proofs.lemmas.Bool.{cond_both}
 use Rattle.floor.specs.declared.node.Radio.{Radio}
-use Rattle.floor.specs.Lists.{some_is}
+use Rattle.std.specs.List.{list_any}
 use Rattle.floor.specs.Meaning.{Meaning, radio}
 use Rattle.floor.specs.Planar.{Blocks}
 use Rattle.host.specs.Questions.{with_mark}
@@ -10,7 +10,7 @@ use Rattle.face.specs.declared.record.Link.{Link}
 use Rattle.face.specs.declared.record.Record.{Record}
 use Rattle.face.specs.Packet.{opening}
 use Rattle.delivery.specs.Law.{serving}
-use Rattle.network.specs.Network.{Net, made, Call, On, Withdraw, Return, LineCall, Open, Hop, Carry, Collect, Answer, Denied, Switched, on_line, put, is_some, moving, opened_on, hopped_on, call_on, switched, called, then}
+use Rattle.network.specs.Network.{Net, made, Call, On, Withdraw, Return, LineCall, Open, Hop, Carry, Collect, Answer, Denied, Switched, on_line, put, moving, opened_on, hopped_on, call_on, switched, called, then}
 use Rattle.network.specs.Law.{Event, Past, net_after, is_switching, marked_by, host_after}
 
 pick : (x : Bool) (p q : Net × Answer) (Q : Net × Answer → Type 0) → Q p → Q q → Q (cond x p q)
@@ -46,13 +46,13 @@ module _ (b : Blocks) (n : Net) where
 
   -- a switching is refused, or made while no packet is under way
   pub switching : (i : ℕ) (mark : Bool) (o : Option Radio) (Q : Net × Answer → Type 0) → ((e : ℕ) → Q (n, Denied e))
-      → (some_is moving n.lines ≡ false → Q (with_host (with_mark n.host i mark), Switched)) → Q (switched b n i mark o)
+      → (list_any moving n.lines ≡ false → Q (with_host (with_mark n.host i mark), Switched)) → Q (switched b n i mark o)
   switching i mark None Q denied done = denied _
-  switching i mark (Some p) Q denied done = cond_both (some_is moving n.lines) _ _ Q (λ _. denied _) done
+  switching i mark (Some p) Q denied done = cond_both (list_any moving n.lines) _ _ Q (λ _. denied _) done
 
   -- any call: whatever holds of the network refused, its lines written, and its host marked while no packet is under way, holds after it
   pub any_call : (Q : Net × Answer → Type 0) (c : Call) → ((e : ℕ) → Q (n, Denied e)) → ((l : ℕ) (o : Option Record) (a : Answer) → is_switching a ≡ false → Q (put n l o, a))
-      → (some_is moving n.lines ≡ false → Q (with_host (marked_by n.host c), Switched)) → Q (called b n c)
+      → (list_any moving n.lines ≡ false → Q (with_host (marked_by n.host c), Switched)) → Q (called b n c)
   any_call Q (On l c) denied written done = line_call l Q denied (written l) c
   any_call Q (Withdraw i) denied written done = switching i false (radio n.host i) Q denied done
   any_call Q (Return i) denied written done = switching i true (radio n.host i) Q denied done

@@ -1,5 +1,5 @@
 -- What a carry's call leaves and answers, once it is made
-use Rattle.std.proofs.Common.{◌≡◌, ℕ, ◌-◌, min, Bool, true, false, cond, ltb, List, length, Some, None, Ok, Err, Option, Result, sym, refl, ap, ◌∙◌, subst, arith}
+use Rattle.std.proofs.Common.{◌≡◌, ℕ, ◌-◌, min, Bool, true, false, cond, ltb, List, length, is_some, Some, None, Ok, Err, Option, Result, sym, refl, ap, ◌∙◌, subst, arith}
 use Rattle.floor.specs.Planar.{Blocks}
 use Rattle.face.specs.declared.record.Record.{Record}
 use Rattle.delivery.specs.Law.{after_sends}
@@ -10,8 +10,7 @@ use Rattle.network.specs.declared.types.Refusal.TheVariants.{NoLine, PacketEnded
 use Rattle.network.specs.Calls.{listed, carry_answer, CarryDoes}
 use Rattle.network.specs.Lent.{Extended}
 use Rattle.network.specs.Lines.{occupied, packet_on}
-use Rattle.network.specs.Network.{Net, On, Carry, Answer, Carried, refused, on_line, put, is_some, trail, stopper, carried_on, called}
-use Rattle.network.proofs.Options.{none_some}
+use Rattle.network.specs.Network.{Net, On, Carry, Answer, Carried, refused, on_line, put, trail, stopper, carried_on, called}
 use Rattle.network.proofs.Trails.{own_call, needed_ends, trail_length}
 
 -- ---- what is found on a line
@@ -25,8 +24,8 @@ pub record Held (n : Net) (l : ℕ) (r : Record) : Type 0 where
   pub held : on_line n l ≡ Some r
 
 held_by : (n : Net) (l : ℕ) (r : Record) (x : Bool) (o : Option Record) → ltb 15 l ≡ x → on_line n l ≡ o → found (occupied (cond x (Err NoLine) (Ok o))) ≡ Some r → Held n l r
-held_by n l r true o low e h = absurd (none_some r h)
-held_by n l r false None low e h = absurd (none_some r h)
+held_by n l r true o low e h = cc
+held_by n l r false None low e h = cc
 held_by n l r false (Some q) low e h = record { low = low; held = e ∙ h }
 
 pub packet_held : (n : Net) (l : ℕ) (r : Record) → Ok r ≡ packet_on n.lines l → Held n l r

@@ -1,7 +1,7 @@
 -- A carry in its middle, and at the packet's end
-use Rattle.std.proofs.Common.{◌≡◌, ℕ, zero, suc, ◌+◌, ◌-◌, ◌<◌, ◌≤◌, min, Bool, true, false, cond, eqb, List, [], ◌∷◌, ◌++◌, length, drop, set, is_err, Some, None, Ok, Err, Option, Result, sym, refl, ap, ◌∙◌, subst, append_assoc, append-nil, add-zero, add-suc, add-one, arith, length-set, ltb-true}
+use Rattle.std.proofs.Common.{◌≡◌, ℕ, zero, suc, ◌+◌, ◌-◌, ◌<◌, ◌≤◌, min, Bool, true, false, cond, eqb, List, [], ◌∷◌, ◌++◌, length, drop, set, is_err, is_some, Some, None, Ok, Err, Option, Result, sym, refl, ap, ◌∙◌, subst, append_assoc, append-nil, add-zero, add-suc, add-one, arith, length-set, ltb-true}
 use Rattle.std.proofs.lemmas.List.{length_push, drop-drop, drop-set-lt}
-use Rattle.std.proofs.lemmas.Bool.{cond-true}
+use Rattle.std.proofs.lemmas.Bool.{cond-true, true≢false}
 use Rattle.floor.specs.Meaning.{Meaning}
 use Rattle.floor.specs.Planar.{Blocks}
 use Rattle.face.specs.declared.record.Link.{Link}
@@ -15,8 +15,7 @@ use Rattle.network.specs.declared.types.HopRecord.{HopRecord}
 use Rattle.network.specs.declared.types.Stopper.TheVariants.{Ended, Budget, Full}
 use Rattle.network.specs.Calls.{carry_answer}
 use Rattle.network.specs.Lent.{items, has_room, appending, length_after, memory_after, items_after, Extended}
-use Rattle.network.specs.Network.{is_some, hop_along, trail, stopper}
-use Rattle.network.proofs.Options.{true_false}
+use Rattle.network.specs.Network.{hop_along, trail, stopper}
 use Rattle.network.proofs.Trails.{send_ended, first_hop, trail_more}
 
 -- ---- past its end a packet makes no hop
@@ -40,7 +39,7 @@ module _ (b : Blocks) (m : Meaning) (r : Record) (k : ℕ) (over : (after_sends 
 room_there : {T : Type 0} (memory : List T) (len : ℕ) (x : Bool) → has_room memory len ≡ x → is_err (appending memory len) ≡ false → x ≡ true
 room_there memory len true e h = refl
 room_there memory len false e h =
-    absurd (true_false (sym (ap (λ (y : Bool). is_err (cond {A = Result (Unit {0}) AppendRefusal} y (Ok tt) (Err NoRoom))) e) ∙ h))
+    absurd (true≢false (sym (ap (λ (y : Bool). is_err (cond {A = Result (Unit {0}) AppendRefusal} y (Ok tt) (Err NoRoom))) e) ∙ h))
 
 -- ---- a carry
 
@@ -84,7 +83,7 @@ module _ (b : Blocks) (m : Meaning) (r₀ : Record) (budget : ℕ) (memory₀ : 
         }
 
     -- one hop more
-    pub one_more : (k : Link) (r' : Record) (memory' : List HopRecord) (len' : ℕ) → r.hand ≡ Some k → (hops ≡ budget → ⊥)
+    pub one_more : (k : Link) (r' : Record) (memory' : List HopRecord) (len' : ℕ) → r.hand ≡ Some k → hops < budget
         → is_err (appending memory len) ≡ false
         → len' ≡ length_after memory len
         → memory' ≡ memory_after memory len (first_hop b m r k)
@@ -113,7 +112,7 @@ module _ (b : Blocks) (m : Meaning) (r₀ : Record) (budget : ℕ) (memory₀ : 
                 ∙ append_assoc (items memory₀ len₀) (trail b m hops r₀) (x ∷ []) ∙ ap (λ (xs : List HopRecord). items memory₀ len₀ ++ xs) (sym trailed);
             rest = (λ i. drop (longer' i) (written' i)) ∙ drop-set-lt (len + 1) memory len x (omega arith) ∙ rest' ∙ ap (λ (i : ℕ). drop i memory₀) (sym longer');
           };
-          within = let w = C.within in omega (arith, left);
+          within = omega arith;
           same_room = ap length written' ∙ length-set memory len x ∙ C.same_room;
           fits = let e = ap length written' ∙ length-set memory len x in omega arith;
         }

@@ -9,7 +9,7 @@ use Rattle.face.specs.declared.record.Link.{Link}
 use Rattle.face.specs.declared.record.Record.{Record}
 use Rattle.face.specs.Packet.{Verdict, GoesOn, Ends, Stale, verdict, under, received, sent_along, send, opened_to, opened_at, opened_between, opening}
 use Rattle.kept.specs.Kept.{kept}
-use Rattle.network.proofs.Options.{none_some, unsome}
+use Rattle.network.proofs.Options.{unsome}
 
 under_holder : (r : Record) (v : ℕ) (w : Verdict) → (under r v w).holder ≡ v
 under_holder r v (GoesOn w c) = refl
@@ -31,8 +31,8 @@ opened_holder : (b : Blocks) (s t : Node) (near : List Node) → (opened_at b s 
 opened_holder b s t near = cond_both (eqb s.number t.number) _ _ (λ (r : Record). r.holder ≡ s.number) (λ _. refl) (λ _. opened_to_holder s t _)
 
 between_holder : (b : Blocks) (s t : ℕ) (p q : Option Radio) (near : List Node) (r : Record) → opened_between b (known_as s p) (known_as t q) near ≡ Some r → r.holder ≡ s
-between_holder b s t None q near r h = absurd (none_some r h)
-between_holder b s t (Some p) None near r h = absurd (none_some r h)
+between_holder b s t None q near r h = cc
+between_holder b s t (Some p) None near r h = cc
 between_holder b s t (Some p) (Some q) near r h =
     sym (ap (λ (x : Record). x.holder) (unsome _ r h)) ∙ opened_holder b (record { number = s; point = p.point }) (record { number = t; point = q.point }) near
 

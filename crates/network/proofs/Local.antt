@@ -5,7 +5,8 @@ use Rattle.std.proofs.lemmas.Bool.{cond_both, and_parts}
 use Rattle.plane.specs.declared.Point.{Point}
 use Rattle.floor.specs.declared.node.Node.{Node}
 use Rattle.floor.specs.declared.node.Radio.{Radio}
-use Rattle.floor.specs.Lists.{differ, nth, those, some_is}
+use Rattle.std.specs.List.{slice_get, filter, list_any}
+use Rattle.floor.specs.Lists.{differ}
 use Rattle.floor.specs.Meaning.{Meaning, Mapped, radio, place_of, point_at, hear, heard, heard_by, neighbours, known_as, node}
 use Rattle.floor.specs.Planar.{Blocks}
 use Rattle.kept.specs.Kept.{kept}
@@ -15,7 +16,7 @@ use Rattle.face.specs.Packet.{verdict, under, send, sent_along, received}
 use Rattle.network.specs.declared.types.Refusal.TheVariants.{NoLine}
 use Rattle.network.specs.Network.{Net, made, On, Hop, Answer, Denied, Opened, Hopped, Carried, Collected, Switched, refused, on_line, hopped_on, call_on, called, answer}
 use Rattle.network.specs.Law.{Journey, whole_past, network_now, host_now, Alike, Local}
-use Rattle.network.proofs.Options.{none_some, unsome, get_set}
+use Rattle.network.proofs.Options.{unsome, get_set}
 use Rattle.network.proofs.Marks.{mapped_after}
 use Rattle.network.proofs.Calls.{host_told}
 
@@ -29,11 +30,11 @@ each_map : {A : Type 0} {P Q : A → Type 0} → ((x : A) → P x → Q x) → (
 each_map f [] h = tt
 each_map f (x ∷ xs) h = (f x h.0, each_map f xs h.1)
 
-some_alike : {A : Type 0} (f g : A → Bool) (xs : List A) → Each (λ (x : A). f x ≡ g x) xs → some_is f xs ≡ some_is g xs
+some_alike : {A : Type 0} (f g : A → Bool) (xs : List A) → Each (λ (x : A). f x ≡ g x) xs → list_any f xs ≡ list_any g xs
 some_alike f g [] h = refl
 some_alike f g (x ∷ xs) h = λ i. h.0 i || some_alike f g xs h.1 i
 
-those_alike : {A : Type 0} (f g : A → Bool) (xs : List A) → Each (λ (x : A). f x ≡ g x) xs → those f xs ≡ those g xs
+those_alike : {A : Type 0} (f g : A → Bool) (xs : List A) → Each (λ (x : A). f x ≡ g x) xs → filter f xs ≡ filter g xs
 those_alike f g [] h = refl
 those_alike f g (x ∷ xs) h = λ i. let rest = those_alike f g xs h.1 i in cond (h.0 i) (x ∷ rest) rest
 
@@ -50,19 +51,19 @@ module _ (m : Meaning) (i : ℕ) where
   abbrev Other : Node → Type 0
   Other v = (i ≢ v.number) × (point_at m v.number ≡ Some v.point)
 
-  others_heard : (p : Radio) (j : ℕ) (qs : List Radio) → ((k : ℕ) → nth m.nodes (j + k) ≡ nth qs k) → Each Other (heard m.reach i p j qs)
+  others_heard : (p : Radio) (j : ℕ) (qs : List Radio) → ((k : ℕ) → slice_get m.nodes (j + k) ≡ slice_get qs k) → Each Other (heard m.reach i p j qs)
   others_heard p j [] h = tt
   others_heard p j (q ∷ qs) h =
       let rest : Each Other (heard m.reach i p (suc j) qs)
-      = others_heard p (suc j) qs (λ k. ap (nth m.nodes) (let e : suc j + k ≡ j + suc k = omega arith in e) ∙ h (suc k)) in
-      let here : nth m.nodes j ≡ Some q = ap (nth m.nodes) (let e : j ≡ j + 0 = omega arith in e) ∙ h 0 in
+      = others_heard p (suc j) qs (λ k. ap (slice_get m.nodes) (let e : suc j + k ≡ j + suc k = omega arith in e) ∙ h (suc k)) in
+      let here : slice_get m.nodes j ≡ Some q = ap (slice_get m.nodes) (let e : j ≡ j + 0 = omega arith in e) ∙ h 0 in
       cond_both (differ i j && hear m.reach p q) _ _ (Each Other)
       (λ t. ((differ_not i j (and_parts (differ i j) (hear m.reach p q) t).0, ap place_of here), rest))
       (λ _. rest)
 
   others_by : (o : Option Radio) → Each Other (heard_by m i o)
   others_by None = tt
-  others_by (Some p) = others_heard p 0 m.nodes (λ k. ap (nth m.nodes) (zero-add k))
+  others_by (Some p) = others_heard p 0 m.nodes (λ k. ap (slice_get m.nodes) (zero-add k))
 
   others : Each Other (neighbours m i)
   others = others_by (radio m i)
@@ -82,8 +83,8 @@ module _ (b b' : Blocks) (alike : Alike b b') (m : Meaning) (M : Mapped m) where
           (M.general.apart v.number w.number v.point w.point (λ e. differ_not w.number v.number d (sym e)) V.1 W.1))
 
       unblocked : (v : Node) → Other m i v
-          → not (some_is (λ (w : Node). differ w.number v.number && b p v.point w.point) (neighbours m i))
-          ≡ not (some_is (λ (w : Node). differ w.number v.number && b' p v.point w.point) (neighbours m i))
+          → not (list_any (λ (w : Node). differ w.number v.number && b p v.point w.point) (neighbours m i))
+          ≡ not (list_any (λ (w : Node). differ w.number v.number && b' p v.point w.point) (neighbours m i))
       unblocked v V = ap not (some_alike _ _ (neighbours m i) (each_map (λ w W. blocked v w V W) (neighbours m i) (others m i)))
 
   received_at : (r : Record) (k : Link) (i : ℕ) (o : Option Radio) → radio m i ≡ o → received b r k (known_as i o) (neighbours m i) ≡ received b' r k (known_as i o) (neighbours m i)
@@ -122,15 +123,15 @@ HopShows b n l v a = (r : Record) × (k : Link) × (on_line n l ≡ Some r) × (
 
 module _ (b : Blocks) (n : Net) (l v : ℕ) where
   shows_link : (r : Record) (o : Option Link) → on_line n l ≡ Some r → r.hand ≡ o → receiver (hopped_on b n l r o).1 ≡ Some v → HopShows b n l v (hopped_on b n l r o)
-  shows_link r None held e h = absurd (none_some v h)
+  shows_link r None held e h = cc
   shows_link r (Some k) held e h = (r, k, held, e, unsome k.to v h, get_set n.lines l r (Some (send b n.host r)) held)
 
   shows_line : (o : Option Record) → on_line n l ≡ o → receiver (call_on b n l o Hop).1 ≡ Some v → HopShows b n l v (call_on b n l o Hop)
-  shows_line None e h = absurd (none_some v h)
+  shows_line None e h = cc
   shows_line (Some r) e h = shows_link r r.hand e refl h
 
   shows : (x : Bool) → receiver (cond x (n, refused NoLine) (call_on b n l (on_line n l) Hop)).1 ≡ Some v → HopShows b n l v (cond x (n, refused NoLine) (call_on b n l (on_line n l) Hop))
-  shows true h = absurd (none_some v h)
+  shows true h = cc
   shows false h = shows_line (on_line n l) refl h
 
 hop_shows : (b : Blocks) (n : Net) (l u v : ℕ) → answer b n (On l Hop) ≡ Hopped (u, v) → HopShows b n l v (called b n (On l Hop))

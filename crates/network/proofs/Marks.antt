@@ -2,7 +2,7 @@
 use Rattle.std.proofs.Common.{◌≡◌, ℕ, zero, suc, ◌≤◌, Bool, true, false, cond, List, [], ◌∷◌, set, Some, None, Option, sym, refl, ap, ◌∙◌, subst, length-set}
 use Rattle.plane.specs.declared.Point.{Point}
 use Rattle.floor.specs.declared.node.Radio.{Radio}
-use Rattle.floor.specs.Lists.{nth}
+use Rattle.std.specs.List.{slice_get}
 use Rattle.floor.specs.Position.{GeneralPosition}
 use Rattle.floor.specs.Meaning.{Meaning, Mapped, radio, place_of}
 use Rattle.host.specs.Questions.{marked, with_mark}
@@ -17,7 +17,7 @@ general_within into G = record {
   bent = λ i j k p q r d e f a c h. G.bent i j k p q r d e f (into i p a) (into j q c) (into k r h);
 }
 
-place_marked : (rs : List Radio) (i : ℕ) (p : Radio) (mark : Bool) → nth rs i ≡ Some p → (j : ℕ) → place_of (nth (set rs i (record { point = p.point; serving = mark })) j) ≡ place_of (nth rs j)
+place_marked : (rs : List Radio) (i : ℕ) (p : Radio) (mark : Bool) → slice_get rs i ≡ Some p → (j : ℕ) → place_of (slice_get (set rs i (record { point = p.point; serving = mark })) j) ≡ place_of (slice_get rs j)
 place_marked [] i p mark h j = refl
 place_marked (x ∷ rs) zero p mark h zero = sym (ap place_of h)
 place_marked (x ∷ rs) zero p mark h (suc j) = refl

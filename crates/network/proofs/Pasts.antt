@@ -1,5 +1,5 @@
 -- THE LAW OVER PASTS, from the run law
-use Rattle.std.proofs.Common.{◌≡◌, ℕ, zero, suc, ◌+◌, ◌-◌, ◌*◌, ◌<◌, ◌≤◌, min, Bool, true, false, cond, ◌&&◌, eqb, ltb, leb, ◌⊎◌, List, [], ◌∷◌, ◌++◌, map, length, Some, None, Option, sym, refl, ap, ◌∙◌, subst, inl, inr, ⊎_elim, arith, ltb-false}
+use Rattle.std.proofs.Common.{◌≡◌, ℕ, zero, suc, ◌+◌, ◌-◌, ◌*◌, ◌<◌, ◌≤◌, min, Bool, true, false, cond, ◌&&◌, eqb, ltb, leb, ◌⊎◌, List, [], ◌∷◌, ◌++◌, map, length, is_some, Some, None, Option, sym, refl, ap, ◌∙◌, subst, inl, inr, ⊎_elim, arith, ltb-false}
 use Rattle.std.proofs.lemmas.List.{get_or-set_same}
 use Rattle.std.proofs.lemmas.Bool.{cond_both, cases_lt, and_parts, le-leb, lt-leb}
 use Rattle.std.proofs.lemmas.Bool.Decides.{nat_tests as tells}
@@ -17,9 +17,9 @@ use Rattle.network.specs.declared.types.HopRecord.{HopRecord}
 use Rattle.network.specs.declared.types.Stopper.{Stopper}
 use Rattle.network.specs.declared.types.Stopper.TheVariants.{Ended, Budget, Full}
 use Rattle.network.specs.declared.types.Refusal.TheVariants.{PacketUnderWay}
-use Rattle.network.specs.Network.{Net, made, Call, On, Open, Hop, Carry, Collect, Answer, Denied, Opened, Hopped, Carried, Collected, Switched, refused, on_line, put, is_some, trail, stopper, opened_on, hopped_on, call_on, then, answer}
+use Rattle.network.specs.Network.{Net, made, Call, On, Open, Hop, Carry, Collect, Answer, Denied, Opened, Hopped, Carried, Collected, Switched, refused, on_line, put, trail, stopper, opened_on, hopped_on, call_on, then, answer}
 use Rattle.network.specs.Law.{Event, Past, net_after, send_of, lone_hop, first_to_stop, Journey, network_now, host_at_opening, most_sends, sends, HasEnded, NextSend, Walk, Bounded, Right, ByTheRules, CarriesByHops, EveryPacketIsDelivered}
-use Rattle.network.proofs.Options.{none_some, unsome, true_false, is_none}
+use Rattle.network.proofs.Options.{unsome, is_none}
 use Rattle.delivery.proofs.Running.{in_service}
 use Rattle.network.proofs.Marks.{mapped_after}
 use Rattle.network.proofs.Calls.{host_stays, host_told, sixteen}
@@ -61,7 +61,7 @@ module _ (b : Blocks) (n : Net) (l s t : ℕ) where
   Shows a = is_opening a.1 ≡ true → Opens b n l s t a.0
 
   never : {x : Net} → false ≡ true → Opens b n l s t x
-  never h = absurd (true_false (sym h))
+  never h = cc
 
   shows_opened : ltb 15 l ≡ false → (o : Option Record) → opening b n.host s t ≡ o → Shows (opened_on b n l (serving n.host s && serving n.host t) o)
   shows_opened low None e = never
@@ -97,13 +97,7 @@ module _ (b : Blocks) (h : Meaning) (s t : ℕ) (r : Record) (stands : (k : ℕ)
   fewer j k le done i lt = done i (omega arith)
 
   not_over : (r' : Record) → Over r' → r'.end ≡ UnderWay → ⊥
-  not_over r' o e = ⊎_elim (λ d. clash (sym d ∙ e)) (λ u. clash' (sym u ∙ e)) o.1
-    where
-      clash : Delivered ≡ UnderWay → ⊥
-      clash x = let z : ◌≡◌ {A = ℕ} 0 1 = cc in omega arith
-
-      clash' : Unreachable ≡ UnderWay → ⊥
-      clash' x = let z : ◌≡◌ {A = ℕ} 0 1 = cc in omega arith
+  not_over r' o e = ⊎_elim (λ d. cc (sym d ∙ e)) (λ u. cc (sym u ∙ e)) o.1
 
   -- a send was made: so it was under way, along a kept link, below the bound
   was_going : (k : ℕ) → Made b h (suc k) r → UnderWayAlong b h (at k) × (k < most)
@@ -174,7 +168,7 @@ module _ (b : Blocks) (l : ℕ) (low : ltb 15 l ≡ false) (n : Net) (q : Record
   collect_tells e total h =
       subst (Tells e total) (sym (own_call b l low n q Collect held))
       (cond_both (is_some q.hand) _ _ (Tells e total)
-      (λ _ x. absurd (none_some _ x))
+      (λ _ x. cc)
       (λ none x. let y = unsome _ _ x in (is_none q.hand none, ap (λ (z : End × ℕ). z.0) (sym y), ap (λ (z : End × ℕ). z.1) (sym y))))
       (ap told_end h)
 
@@ -195,7 +189,7 @@ module _ (b : Blocks) (l : ℕ) (low : ltb 15 l ≡ false) (n : Net) (q : Record
         subst (Carries hs stop) (sym (own_call b l low n q (Carry budget room) held))
         (cond_both (is_some q.hand) _ _ (Carries hs stop)
         (λ _ x. let y = unsome _ _ x in (ap (λ (z : List HopRecord × Stopper). z.0) (sym y), ap (λ (z : List HopRecord × Stopper). z.1) (sym y), refl))
-        (λ _ x. absurd (none_some _ x)))
+        (λ _ x. cc))
         (ap told_hops h)
 
     -- the number of hops and what stops them, by the hops needed
@@ -256,7 +250,7 @@ module _ (b : Blocks) (m : Meaning) (P : Journey b m) (low : ltb 15 P.line ≡ f
       (λ d. inl (same ∙ d, subst (RightEnd (host_at_opening P) P.source P.target) d standing.right))
       (λ u. inr (same ∙ u, subst (RightEnd (host_at_opening P) P.source P.target) u standing.right))
       o.1)
-      (λ x. absurd (none_some x.1.l (sym none ∙ x.1.in_hand)))
+      (λ x. cc (sym none ∙ x.1.in_hand))
       standing.goes
 
   pub right : Right b m P

@@ -1,5 +1,5 @@
 -- A line's hops: what one makes, what many make, and that a carry is its hops
-use Rattle.std.proofs.Common.{◌≡◌, ℕ, zero, suc, ◌<◌, ◌≤◌, min, Bool, true, false, cond, ltb, List, [], ◌∷◌, ◌++◌, map, length, replicate, Some, None, Option, sym, refl, ap, ◌∙◌, subst, append_assoc, append-nil, arith}
+use Rattle.std.proofs.Common.{◌≡◌, ℕ, zero, suc, ◌<◌, ◌≤◌, min, Bool, true, false, cond, ltb, List, [], ◌∷◌, ◌++◌, map, length, replicate, is_some, Some, None, Option, sym, refl, ap, ◌∙◌, subst, append_assoc, append-nil, arith}
 use native.Mathlib.Nat.{zero-min, min-zero, suc-min-suc}
 use Rattle.std.proofs.lemmas.List.{set-set}
 use Rattle.floor.specs.Meaning.{Meaning}
@@ -10,7 +10,7 @@ use Rattle.face.specs.Packet.{send, sent_along}
 use Rattle.delivery.specs.Law.{after_sends}
 use Rattle.network.specs.declared.types.HopRecord.{HopRecord}
 use Rattle.network.specs.declared.types.Refusal.TheVariants.{NoLine}
-use Rattle.network.specs.Network.{Net, On, LineCall, Hop, Answer, Hopped, refused, on_line, put, is_some, moving, hop_along, trail, hopped_on, call_on, called, then, answer, after, after_hops, HopsNeeded}
+use Rattle.network.specs.Network.{Net, On, LineCall, Hop, Answer, Hopped, refused, on_line, put, moving, hop_along, trail, hopped_on, call_on, called, then, answer, after, after_hops, HopsNeeded}
 use Rattle.network.specs.Law.{Event, Past, net_after, lone_hop}
 use Rattle.network.proofs.Options.{is_none, some_of, set_same, get_set, iterate_shift}
 

@@ -1,7 +1,7 @@
 -- What the code's calls promise, in the words of the model.
 use Rattle.std.specs.Prelude.{◌≡◌, ℕ, ◌-◌, min, Bool, cond, ◌&&◌, List, [], length, IfOk, Some, None, Ok, Err, Option, Result}
 use Rattle.floor.specs.declared.node.Radio.{Radio}
-use Rattle.floor.specs.Lists.{some_is}
+use Rattle.std.specs.List.{list_any}
 use Rattle.floor.specs.Meaning.{Meaning, radio}
 use Rattle.floor.specs.Planar.{Blocks}
 use Rattle.face.specs.declared.record.Record.{Record}
@@ -72,4 +72,4 @@ switch_if busy (Some p) = cond busy (Err NetworkBusy) (Ok tt)
 
 -- node i may be switched, or why it may not
 abbrev pub may_switch : Meaning → List (Option Record) → ℕ → Result (Unit {0}) Refusal
-may_switch m lines i = switch_if (some_is moving lines) (radio m i)
+may_switch m lines i = switch_if (list_any moving lines) (radio m i)

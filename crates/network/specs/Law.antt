@@ -1,7 +1,7 @@
 -- THE LAW over every past of every network: each packet ends in time, ends rightly, and goes by the rules.
 use Rattle.std.specs.Prelude.{◌≡◌, ℕ, ◌+◌, ◌*◌, ◌≤◌, min, Bool, true, false, cond, not, T, ◌≢◌, ◌⊎◌, List, [], ◌∷◌, ◌++◌, map, length, Some, Option, ◌==◌, nat_le}
 use Rattle.plane.specs.declared.Point.{Point}
-use Rattle.floor.specs.Lists.{some_is}
+use Rattle.std.specs.List.{list_any}
 use Rattle.floor.specs.Meaning.{Meaning, Mapped, Joined, point_at, neighbours}
 use Rattle.floor.specs.Planar.{Blocks, Lawful}
 use Rattle.host.specs.Questions.{with_mark}
@@ -95,7 +95,7 @@ pub record Journey (b : Blocks) (m : Meaning) : Type 0 where
   pub target : ℕ
   pub since : List Event
   pub past : Past b (made m) (earlier ++ (On line (Open source target), Opened) ∷ since)
-  pub uncollected : T (not (some_is is_collection (told_on line since)))
+  pub uncollected : T (not (list_any is_collection (told_on line since)))
 
 module _ {b : Blocks} {m : Meaning} (P : Journey b m) where
   abbrev pub whole_past : List Event

@@ -4,3 +4,5 @@ pub mod Law
 pub mod Lent
 pub mod Lines
 pub mod Calls
+pub mod Texts
+pub mod Doing

@@ -1,7 +1,7 @@
 -- A network: sixteen lines over a host; its six calls, what each is answered, and the network after it.
-use Rattle.std.specs.Prelude.{◌≡◌, ℕ, zero, suc, ◌<◌, min, Bool, true, false, cond, ◌&&◌, List, [], ◌∷◌, ◌++◌, length, replicate, Some, None, Option, ◌==◌, nat_lt, slice_index_or, slice_set}
+use Rattle.std.specs.Prelude.{◌≡◌, ℕ, zero, suc, ◌<◌, min, Bool, true, false, cond, ◌&&◌, List, [], ◌∷◌, ◌++◌, length, replicate, is_some, Some, None, Option, ◌==◌, nat_lt, slice_index_or, slice_set}
 use Rattle.floor.specs.declared.node.Radio.{Radio}
-use Rattle.floor.specs.Lists.{some_is}
+use Rattle.std.specs.List.{list_any}
 use Rattle.floor.specs.Meaning.{Meaning, radio}
 use Rattle.floor.specs.Planar.{Blocks}
 use Rattle.host.specs.Questions.{with_mark}
@@ -59,10 +59,6 @@ on_line n l = slice_index_or n.lines l None
 abbrev pub put : Net → ℕ → Option Record → Net
 put n l o = record { host = n.host; lines = slice_set n.lines l o }
 
-abbrev pub is_some : {A : Type 0} → Option A → Bool
-is_some None = false
-is_some (Some x) = true
-
 -- a packet is under way while it has a link in hand: its end takes that away
 abbrev pub moving : Option Record → Bool
 moving None = false
@@ -114,7 +110,7 @@ module _ (b : Blocks) (n : Net) where
   -- sets the mark of node i, a radio of the host or none
   abbrev pub switched : ℕ → Bool → Option Radio → Net × Answer
   switched i mark None = (n, refused NoNode)
-  switched i mark (Some p) = cond (some_is moving n.lines) (n, refused NetworkBusy) (record { host = with_mark n.host i mark; lines = n.lines }, Switched)
+  switched i mark (Some p) = cond (list_any moving n.lines) (n, refused NetworkBusy) (record { host = with_mark n.host i mark; lines = n.lines }, Switched)
 
   abbrev pub called : Call → Net × Answer
   called (On l c) = cond (nat_lt 15 l) (n, refused NoLine) (call_on l (on_line n l) c)

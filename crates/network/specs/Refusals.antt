@@ -1,6 +1,8 @@
 -- The number of each refusal.
 use Rattle.std.specs.Prelude.{ℕ}
 use Rattle.network.specs.declared.types.Refusal.{Refusal}
+use Rattle.face.specs.declared.packet.Refusal.{Refusal as Unopened}
+use Rattle.face.specs.declared.packet.Refusal.TheVariants as unopened
 use Rattle.network.specs.declared.types.Refusal.TheVariants.{NoLine, LineTaken, NoNode, OutOfService, LineEmpty, PacketEnded, PacketUnderWay, NetworkBusy}
 
 abbrev pub number_of : Refusal → ℕ
@@ -20,3 +22,9 @@ number_of PacketEnded = 46
 number_of PacketUnderWay = 47
 -- some line has a packet under way
 number_of NetworkBusy = 48
+
+-- why a packet was not opened, as a network says it
+abbrev pub not_opened : Unopened → Refusal
+not_opened unopened.NoNode = NoNode
+not_opened unopened.OutOfService = OutOfService
+not_opened unopened.NoWay = OutOfService

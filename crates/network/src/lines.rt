@@ -1,5 +1,5 @@
 ghost use Rattle.std.specs.Prelude.{◌≡◌, length, replicate, None, slice_set};
-ghost use Rattle.floor.specs.Lists.{some_is};
+ghost use Rattle.std.specs.List.{list_any};
 ghost use Rattle.network.specs.Network.{moving};
 ghost use Rattle.network.specs.Lines.{content_on, vacant_on, packet_on};
 
@@ -17,10 +17,7 @@ pub struct Lines {
 fn is_moving(content: &Option<Record>) -> bool
     ensures { result ≡ moving content.now }
 {
-    match content {
-        Some(record) => record.hand.is_some(),
-        None => false,
-    }
+    content.is_some_and(|record| record.hand.is_some())
 }
 
 impl Lines {
@@ -37,10 +34,10 @@ impl Lines {
     fn at(&self, line: u8) -> Result<Option<Record>, Refusal>
         ensures { result ≡ content_on self.now.records line }
     {
-        if line > 15 {
-            return Err(Refusal::NoLine);
-        }
-        Ok(self.records[usize::from(line)])
+        self.records
+            .get(usize::from(line))
+            .copied()
+            .ok_or(Refusal::NoLine)
     }
 
     /// Refused unless it is an empty line.
@@ -57,16 +54,14 @@ impl Lines {
     pub fn packet(&self, line: u8) -> Result<Record, Refusal>
         ensures { result ≡ packet_on self.now.records line }
     {
-        match self.at(line)? {
-            Some(record) => Ok(record),
-            None => Err(Refusal::LineEmpty),
-        }
+        self.at(line)?.ok_or(Refusal::LineEmpty)
     }
 
     /// Puts a record on a line, or empties it; a number that is no line alters nothing.
     pub fn put(&mut self, line: u8, content: Option<Record>)
         ensures { self.new.records ≡ slice_set self.old.records line content }
     {
+        // By index, since a slice's `get_mut` promises nothing of what is written.
         if line <= 15 {
             self.records[usize::from(line)] = content;
         }
@@ -74,13 +69,8 @@ impl Lines {
 
     /// Whether a line has a packet under way.
     pub fn busy(&self) -> bool
-        ensures { result ≡ some_is moving self.now.records }
+        ensures { result ≡ list_any moving self.now.records }
     {
-        for content in &self.records {
-            if is_moving(content) {
-                return true;
-            }
-        }
-        false
+        self.records.iter().any(is_moving)
     }
 }

@@ -1,5 +1,5 @@
 ghost use Rattle.std.specs.Prelude.{◌≡◌};
-ghost use Rattle.network.specs.Calls.{net, told, Does, CarryDoes, may_switch};
+ghost use Rattle.network.specs.Calls.{told, CarryDoes, may_switch};
 ghost use Rattle.network.specs.Law.{Journey, Delivers, EveryPacketIsDelivered};
 ghost use Rattle.network.specs.Network.{made, On, Withdraw, Return, Open, Hop, Collect, Opened, Hopped, Collected, Switched};
 
@@ -10,6 +10,7 @@ use crate::types::{Carried, HopRecord, Refusal};
 use face::record::End;
 use floor::planariser::Planariser;
 use host::sides::{Reading, Switching};
+use kept::links::KeptGraph;
 
 /// A network: sixteen lines over a host, its links thinned by a planariser.
 #[derive(Drop)]
@@ -20,10 +21,12 @@ pub struct Network<H, P> {
 }
 
 impl<H: Switching, P: Planariser> Network<H, P> {
+    ghost use Rattle.network.specs.Doing.{net_of, OverTheSame, DoesOnLine, DoesToNode, switching};
+
     /// A network with all lines empty. Whatever is asked of it from then on, each packet of its past is delivered as the law says: `delivers`
     /// of this host and this planariser, `always` of every other.
     pub fn new(host: H, planariser: P) -> Network<H, P>
-        ensures empty { net (H.Reading.meaning result.host) result.lines.records ≡ made (H.Reading.meaning host) }
+        ensures empty { net_of H.Reading.meaning result ≡ made (H.Reading.meaning host) }
         ensures host { result.host ≡ host }
         ensures planariser { result.planariser ≡ planariser }
         ensures delivers { (p : Journey (P.Planariser.blocking planariser) (H.Reading.meaning host)) → Delivers (P.Planariser.blocking planariser) (H.Reading.meaning host) p }
@@ -36,29 +39,36 @@ impl<H: Switching, P: Planariser> Network<H, P> {
         }
     }
 
+    // The kept graph of its host under its planariser.
+    fn graph(&self) -> KeptGraph<'_, H, P>
+        ensures host { result.host.now ≡ self.now.host }
+        ensures planariser { result.planariser.now ≡ self.now.planariser }
+    {
+        KeptGraph {
+            host: &self.host,
+            planariser: &self.planariser,
+        }
+    }
+
     /// Opens a packet from `source` to `target` on an empty line.
     pub fn open(&mut self, line: u8, source: u8, target: u8) -> Result<(), Refusal>
-        ensures call { Does (P.Planariser.blocking self.old.planariser) (net (H.Reading.meaning self.old.host) self.old.lines.records) (On line (Open source target)) (net (H.Reading.meaning self.new.host) self.new.lines.records) (told (λ _. Opened) result) }
-        ensures host { self.new.host ≡ self.old.host }
-        ensures planariser { self.new.planariser ≡ self.old.planariser }
+        ensures { DoesOnLine H.Reading.meaning P.Planariser.blocking self.old line (Open source target) self.new (told (λ _. Opened) result) }
     {
         self.lines.vacant(line)?;
-        let record = open_record(&self.host, &self.planariser, source, target)?;
+        let record = open_record(self.graph(), source, target)?;
         self.lines.put(line, Some(record));
         Ok(())
     }
 
     /// Sends the packet on a line once, and answers the pair of sender and receiver.
     pub fn hop(&mut self, line: u8) -> Result<(u8, u8), Refusal>
-        ensures call { Does (P.Planariser.blocking self.old.planariser) (net (H.Reading.meaning self.old.host) self.old.lines.records) (On line Hop) (net (H.Reading.meaning self.new.host) self.new.lines.records) (told Hopped result) }
-        ensures host { self.new.host ≡ self.old.host }
-        ensures planariser { self.new.planariser ≡ self.old.planariser }
+        ensures { DoesOnLine H.Reading.meaning P.Planariser.blocking self.old line Hop self.new (told Hopped result) }
     {
         let mut packet = self.lines.packet(line)?;
         let Some(link) = packet.hand else {
             return Err(Refusal::PacketEnded);
         };
-        packet.send(&self.host, &self.planariser);
+        packet.send(self.graph());
         self.lines.put(line, Some(packet));
         Ok((link.from, link.to))
     }
@@ -70,25 +80,22 @@ impl<H: Switching, P: Planariser> Network<H, P> {
         budget: u16,
         list: &mut LentList<'_, HopRecord>,
     ) -> Result<Carried, Refusal>
-        ensures call { CarryDoes (P.Planariser.blocking self.old.planariser) (net (H.Reading.meaning self.old.host) self.old.lines.records) line budget list.old.memory.now list.old.len (net (H.Reading.meaning self.new.host) self.new.lines.records) result list.new.memory.now list.new.len }
+        ensures call { CarryDoes (P.Planariser.blocking self.old.planariser) (net_of H.Reading.meaning self.old) line budget list.old.memory.now list.old.len (net_of H.Reading.meaning self.new) result list.new.memory.now list.new.len }
+        ensures floor { OverTheSame self.old self.new }
         ensures lent { list.new.memory.ghost_name ≡ list.old.memory.ghost_name }
-        ensures host { self.new.host ≡ self.old.host }
-        ensures planariser { self.new.planariser ≡ self.old.planariser }
     {
         let mut packet = self.lines.packet(line)?;
         let Some(_) = packet.hand else {
             return Err(Refusal::PacketEnded);
         };
-        let carried = carry_on(&mut packet, budget, list, &self.host, &self.planariser);
+        let carried = carry_on(&mut packet, budget, list, self.graph());
         self.lines.put(line, Some(packet));
         Ok(carried)
     }
 
     /// Takes an ended packet off its line, and answers its end and its total.
     pub fn collect(&mut self, line: u8) -> Result<(End, u16), Refusal>
-        ensures call { Does (P.Planariser.blocking self.old.planariser) (net (H.Reading.meaning self.old.host) self.old.lines.records) (On line Collect) (net (H.Reading.meaning self.new.host) self.new.lines.records) (told (λ x. Collected x.0 x.1) result) }
-        ensures host { self.new.host ≡ self.old.host }
-        ensures planariser { self.new.planariser ≡ self.old.planariser }
+        ensures { DoesOnLine H.Reading.meaning P.Planariser.blocking self.old line Collect self.new (told (λ x. Collected x.0 x.1) result) }
     {
         let record = self.lines.packet(line)?;
         if record.hand.is_some() {
@@ -111,23 +118,26 @@ impl<H: Switching, P: Planariser> Network<H, P> {
         Ok(())
     }
 
-    /// Takes a node out of service.
-    pub fn withdraw(&mut self, node: u8) -> Result<(), Refusal>
-        ensures call { Does (P.Planariser.blocking self.old.planariser) (net (H.Reading.meaning self.old.host) self.old.lines.records) (Withdraw node) (net (H.Reading.meaning self.new.host) self.new.lines.records) (told (λ _. Switched) result) }
-        ensures planariser { self.new.planariser ≡ self.old.planariser }
+    // Takes a node out of service, or puts it back.
+    fn switch(&mut self, node: u8, serving: bool) -> Result<(), Refusal>
+        ensures { DoesToNode H.Reading.meaning P.Planariser.blocking self.old (switching serving node) self.new (told (λ _. Switched) result) }
     {
         self.switchable(node)?;
-        self.host.withdraw(node);
+        self.host.switch(node, serving);
         Ok(())
+    }
+
+    /// Takes a node out of service.
+    pub fn withdraw(&mut self, node: u8) -> Result<(), Refusal>
+        ensures { DoesToNode H.Reading.meaning P.Planariser.blocking self.old (Withdraw node) self.new (told (λ _. Switched) result) }
+    {
+        self.switch(node, false)
     }
 
     /// Puts a node into service again.
     pub fn restore(&mut self, node: u8) -> Result<(), Refusal>
-        ensures call { Does (P.Planariser.blocking self.old.planariser) (net (H.Reading.meaning self.old.host) self.old.lines.records) (Return node) (net (H.Reading.meaning self.new.host) self.new.lines.records) (told (λ _. Switched) result) }
-        ensures planariser { self.new.planariser ≡ self.old.planariser }
+        ensures { DoesToNode H.Reading.meaning P.Planariser.blocking self.old (Return node) self.new (told (λ _. Switched) result) }
     {
-        self.switchable(node)?;
-        self.host.restore(node);
-        Ok(())
+        self.switch(node, true)
     }
 }

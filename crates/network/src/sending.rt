@@ -6,25 +6,22 @@ ghost use Rattle.network.specs.Network.{trail};
 
 use crate::list::LentList;
 use crate::types::{Carried, HopRecord, Refusal, Stopper};
-use face::packet::{Packet, Refusal as Unopened};
+use face::packet::Packet;
 use face::record::Record;
 use floor::planariser::Planariser;
 use host::sides::Reading;
+use kept::links::KeptGraph;
 
 /// The record of a new packet; refused where source or target is no node or out of service.
 pub fn open_record<R: Reading, P: Planariser>(
-    host: &R,
-    planariser: &P,
+    graph: KeptGraph<'_, R, P>,
     source: u8,
     target: u8,
 ) -> Result<Record, Refusal>
-    ensures { result ≡ newly_opened (P.Planariser.blocking planariser.now) (R.Reading.meaning host.now) source target }
+    ensures { result ≡ newly_opened (P.Planariser.blocking graph.entry.planariser.now) (R.Reading.meaning graph.entry.host.now) source target }
 {
-    match Packet::open(host, planariser, source, target) {
-        Ok(packet) => Ok(packet.put_by()),
-        Err(Unopened::NoNode) => Err(Refusal::NoNode),
-        Err(_) => Err(Refusal::OutOfService),
-    }
+    let packet = Packet::open(graph, source, target)?;
+    Ok(packet.put_by())
 }
 
 /// Sends a packet on until it ends, the budget is used up or the list is full, and lists its hops.
@@ -32,28 +29,20 @@ pub fn carry_on<R: Reading, P: Planariser>(
     packet: &mut Record,
     budget: u16,
     list: &mut LentList<'_, HopRecord>,
-    host: &R,
-    planariser: &P,
+    graph: KeptGraph<'_, R, P>,
 ) -> Carried
-    ensures packet { packet.new ≡ after_sends (P.Planariser.blocking planariser.now) (R.Reading.meaning host.now) (min budget (length list.old.memory.now - list.old.len)) packet.old }
-    ensures answer { result ≡ carry_answer (P.Planariser.blocking planariser.now) (R.Reading.meaning host.now) budget (length list.old.memory.now - list.old.len) packet.old }
-    ensures list { Extended list.old.memory.now list.old.len (trail (P.Planariser.blocking planariser.now) (R.Reading.meaning host.now) (min budget (length list.old.memory.now - list.old.len)) packet.old) list.new.memory.now list.new.len }
+    ensures packet { packet.new ≡ after_sends (P.Planariser.blocking graph.entry.planariser.now) (R.Reading.meaning graph.entry.host.now) (min budget (length list.old.memory.now - list.old.len)) packet.old }
+    ensures answer { result ≡ carry_answer (P.Planariser.blocking graph.entry.planariser.now) (R.Reading.meaning graph.entry.host.now) budget (length list.old.memory.now - list.old.len) packet.old }
+    ensures list { Extended list.old.memory.now list.old.len (trail (P.Planariser.blocking graph.entry.planariser.now) (R.Reading.meaning graph.entry.host.now) (min budget (length list.old.memory.now - list.old.len)) packet.old) list.new.memory.now list.new.len }
     ensures lent { list.new.memory.ghost_name ≡ list.old.memory.ghost_name }
 {
-    let mut hops = 0;
-    loop {
+    for hops in 0..budget {
         let Some(link) = packet.hand else {
             return Carried {
                 hops,
                 stopper: Stopper::Ended,
             };
         };
-        if hops == budget {
-            return Carried {
-                hops,
-                stopper: Stopper::Budget,
-            };
-        }
         let hop = HopRecord {
             sender: link.from,
             receiver: link.to,
@@ -65,7 +54,15 @@ pub fn carry_on<R: Reading, P: Planariser>(
                 stopper: Stopper::Full,
             };
         }
-        packet.send(host, planariser);
-        hops += 1;
+        packet.send(graph);
+    }
+    let stopper = if packet.hand.is_none() {
+        Stopper::Ended
+    } else {
+        Stopper::Budget
+    };
+    Carried {
+        hops: budget,
+        stopper,
     }
 }

@@ -1,14 +1,17 @@
 //! What stops a carry, and what it lists.
-use crate::floors::{KITE, MESH, refusal, scan, table};
+use crate::common::{network_of, refusal};
 use face::record::Phase;
 use floor::planariser::Planariser;
 use floor::planariser::gabriel::Gabriel;
+use host::scan::ScanHost;
 use host::sides::Switching;
+use host::table::TableHost;
 use network::list::LentList;
 use network::network::Network;
 use network::types::{Carried, HopRecord, Refusal, Stopper};
 use std::process::Abort;
 use std::test::Fail;
+use worked::{CROWD, TAIL};
 
 // What memory holds before it is lent: no node sends to itself.
 const BLANK: HopRecord = HopRecord {
@@ -17,48 +20,20 @@ const BLANK: HopRecord = HopRecord {
     phase: Phase::Back,
 };
 
-// Whether two phases are one.
-fn same_phase(a: Phase, b: Phase) -> bool {
-    match (a, b) {
-        (Phase::Round, Phase::Round) => true,
-        (Phase::Ahead, Phase::Ahead) => true,
-        (Phase::Back, Phase::Back) => true,
-        (_, _) => false,
-    }
-}
-
-// Whether a listed hop is this one.
-fn same_hop(listed: HopRecord, hop: (u8, u8, Phase)) -> bool {
-    listed.sender == hop.0 && listed.receiver == hop.1 && same_phase(listed.phase, hop.2)
-}
-
 // Checks that a list holds these hops.
 fn check_list(rt: &impl Abort, listed: &[HopRecord], hops: &[(u8, u8, Phase)]) {
-    assert!(rt; listed.len() == hops.len());
-    for (a, b) in listed.iter().zip(hops) {
-        assert!(rt; same_hop(*a, *b));
+    assert_eq!(rt; listed.len(), hops.len());
+    for (hop, expected) in listed.iter().zip(hops) {
+        assert_eq!(rt; (hop.sender, hop.receiver, hop.phase), *expected);
     }
 }
 
-// Whether two stoppers are one.
-fn same_stopper(a: Stopper, b: Stopper) -> bool {
-    match (a, b) {
-        (Stopper::Ended, Stopper::Ended) => true,
-        (Stopper::Budget, Stopper::Budget) => true,
-        (Stopper::Full, Stopper::Full) => true,
-        (_, _) => false,
-    }
+// A carry that made so many hops and was stopped by this.
+fn stopped(hops: u16, stopper: Stopper) -> Result<Carried, Refusal> {
+    Ok(Carried { hops, stopper })
 }
 
-// Whether a carry made so many hops and was stopped by this.
-fn stopped(answer: Result<Carried, Refusal>, hops: u16, stopper: Stopper) -> bool {
-    match answer {
-        Ok(carried) => carried.hops == hops && same_stopper(carried.stopper, stopper),
-        Err(_) => false,
-    }
-}
-
-// The kite's way from node 0 to node 3, in three parts.
+// The way from node 0 to node 3 of the tail's floor, in three parts.
 const CLOSING: [(u8, u8, Phase); 3] = [
     (0, 1, Phase::Round),
     (1, 2, Phase::Round),
@@ -73,9 +48,9 @@ const ARRIVING: [(u8, u8, Phase); 2] = [(0, 2, Phase::Round), (2, 3, Phase::Roun
 fn check_full<H: Switching, P: Planariser>(rt: &impl Abort, network: &mut Network<H, P>) {
     let mut three = [BLANK; 3];
     let mut list = LentList::new(&mut three);
-    assert!(rt; stopped(network.carry(0, 10, &mut list), 3, Stopper::Full));
-    assert!(rt; stopped(network.carry(0, 10, &mut list), 0, Stopper::Full));
-    assert!(rt; stopped(network.carry(0, 0, &mut list), 0, Stopper::Budget));
+    assert_eq!(rt; network.carry(0, 10, &mut list), stopped(3, Stopper::Full));
+    assert_eq!(rt; network.carry(0, 10, &mut list), stopped(0, Stopper::Full));
+    assert_eq!(rt; network.carry(0, 0, &mut list), stopped(0, Stopper::Budget));
     check_list(rt, list.as_slice(), &CLOSING);
 }
 
@@ -83,7 +58,7 @@ fn check_full<H: Switching, P: Planariser>(rt: &impl Abort, network: &mut Networ
 fn check_budget<H: Switching, P: Planariser>(rt: &impl Abort, network: &mut Network<H, P>) {
     let mut ten = [BLANK; 10];
     let mut list = LentList::new(&mut ten);
-    assert!(rt; stopped(network.carry(0, 2, &mut list), 2, Stopper::Budget));
+    assert_eq!(rt; network.carry(0, 2, &mut list), stopped(2, Stopper::Budget));
     check_list(rt, list.as_slice(), &CHANGING);
 }
 
@@ -91,7 +66,10 @@ fn check_budget<H: Switching, P: Planariser>(rt: &impl Abort, network: &mut Netw
 fn check_end<H: Switching, P: Planariser>(rt: &impl Abort, network: &mut Network<H, P>) {
     let mut twenty = [BLANK; 20];
     let mut list = LentList::new(&mut twenty);
-    assert!(rt; stopped(network.carry(0, 100, &mut list), 2, Stopper::Ended));
+    assert_eq!(rt;
+        network.carry(0, 100, &mut list),
+        stopped(2, Stopper::Ended)
+    );
     assert_eq!(rt; refusal(network.carry(0, 100, &mut list)), Some(46));
     check_list(rt, list.as_slice(), &ARRIVING);
 }
@@ -106,14 +84,10 @@ fn check_stoppers<H: Switching, P: Planariser>(rt: &impl Abort, network: &mut Ne
 
 #[test]
 fn stops(rt: HostRuntime) -> Result<(), Fail> {
-    check_stoppers(
-        &rt,
-        &mut Network::new(scan(&rt, rt.alloc(), &KITE, 8)?, Gabriel),
-    );
-    check_stoppers(
-        &rt,
-        &mut Network::new(table(&rt, rt.alloc(), &KITE, 8)?, Gabriel),
-    );
+    let mut scan = network_of::<ScanHost, _>(rt.alloc(), TAIL, Gabriel)?;
+    check_stoppers(&rt, &mut scan);
+    let mut table = network_of::<TableHost, _>(rt.alloc(), TAIL, Gabriel)?;
+    check_stoppers(&rt, &mut table);
     Ok(())
 }
 
@@ -122,22 +96,18 @@ fn check_order<H: Switching, P: Planariser>(rt: &impl Abort, network: &mut Netwo
     assert_eq!(rt; refusal(network.open(0, 0, 3)), None);
     let mut four = [BLANK; 4];
     let mut list = LentList::new(&mut four);
-    assert!(rt; stopped(network.carry(0, 4, &mut list), 4, Stopper::Budget));
+    assert_eq!(rt; network.carry(0, 4, &mut list), stopped(4, Stopper::Budget));
     let mut three = [BLANK; 3];
     let mut list = LentList::new(&mut three);
-    assert!(rt; stopped(network.carry(0, 3, &mut list), 3, Stopper::Ended));
+    assert_eq!(rt; network.carry(0, 3, &mut list), stopped(3, Stopper::Ended));
 }
 
 #[test]
 fn stops_in_order(rt: HostRuntime) -> Result<(), Fail> {
-    check_order(
-        &rt,
-        &mut Network::new(scan(&rt, rt.alloc(), &KITE, 8)?, Gabriel),
-    );
-    check_order(
-        &rt,
-        &mut Network::new(table(&rt, rt.alloc(), &KITE, 8)?, Gabriel),
-    );
+    let mut scan = network_of::<ScanHost, _>(rt.alloc(), TAIL, Gabriel)?;
+    check_order(&rt, &mut scan);
+    let mut table = network_of::<TableHost, _>(rt.alloc(), TAIL, Gabriel)?;
+    check_order(&rt, &mut table);
     Ok(())
 }
 
@@ -159,25 +129,24 @@ const THREE_ROUNDS: [(u8, u8, Phase); 14] = [
     (5, 8, Phase::Round),
 ];
 
-// Checks the mesh's way from node 0 to node 8, in one list over two carries.
+// Checks the crowd's way from node 0 to node 8, in one list over two carries.
 fn check_rounds<H: Switching, P: Planariser>(rt: &impl Abort, network: &mut Network<H, P>) {
     assert_eq!(rt; refusal(network.open(7, 0, 8)), None);
     let mut memory = [BLANK; 20];
     let mut list = LentList::new(&mut memory);
-    assert!(rt; stopped(network.carry(7, 11, &mut list), 11, Stopper::Budget));
-    assert!(rt; stopped(network.carry(7, 36, &mut list), 3, Stopper::Ended));
+    assert_eq!(rt;
+        network.carry(7, 11, &mut list),
+        stopped(11, Stopper::Budget)
+    );
+    assert_eq!(rt; network.carry(7, 36, &mut list), stopped(3, Stopper::Ended));
     check_list(rt, list.as_slice(), &THREE_ROUNDS);
 }
 
 #[test]
 fn lists_each_phase(rt: HostRuntime) -> Result<(), Fail> {
-    check_rounds(
-        &rt,
-        &mut Network::new(scan(&rt, rt.alloc(), &MESH, 13)?, Gabriel),
-    );
-    check_rounds(
-        &rt,
-        &mut Network::new(table(&rt, rt.alloc(), &MESH, 13)?, Gabriel),
-    );
+    let mut scan = network_of::<ScanHost, _>(rt.alloc(), CROWD, Gabriel)?;
+    check_rounds(&rt, &mut scan);
+    let mut table = network_of::<TableHost, _>(rt.alloc(), CROWD, Gabriel)?;
+    check_rounds(&rt, &mut table);
     Ok(())
 }

@@ -1,14 +1,7 @@
 //! Lists in lent memory.
-use network::list::{AppendRefusal, LentList};
+use crate::common::refusal;
+use network::list::LentList;
 use std::process::Abort;
-
-// The number with which an element was refused, if it was.
-fn refusal(answer: Result<(), AppendRefusal>) -> Option<u8> {
-    match answer {
-        Ok(()) => None,
-        Err(why) => Some(why.number()),
-    }
-}
 
 // Elements appended to a list of two places in turn, the refusal, and how many places are free then.
 const ELEMENTS: [(u8, Option<u8>, usize); 4] = [
@@ -20,19 +13,19 @@ const ELEMENTS: [(u8, Option<u8>, usize); 4] = [
 
 // Appends two elements to a list of two places, and then no third.
 fn check_filling(rt: &impl Abort, list: &mut LentList<'_, u8>) {
-    assert!(rt; list.free() == 2);
+    assert_eq!(rt; list.free(), 2);
     for (x, number, free) in ELEMENTS {
         assert_eq!(rt; refusal(list.append(x)), number);
-        assert!(rt; list.free() == free);
+        assert_eq!(rt; list.free(), free);
     }
-    assert!(rt; list.as_slice() == [7, 5].as_slice());
+    assert_eq!(rt; list.as_slice(), [7, 5].as_slice());
 }
 
 #[test]
 fn appends_until_full(rt: HostRuntime) {
     let mut memory = [1; 2];
     check_filling(&rt, &mut LentList::new(&mut memory));
-    assert!(rt; memory == [7, 5]);
+    assert_eq!(rt; memory, [7, 5]);
 }
 
 #[test]
@@ -40,5 +33,5 @@ fn appends_nothing_to_no_memory(rt: HostRuntime) {
     let mut memory = [];
     let mut list = LentList::new(&mut memory);
     assert_eq!(rt; refusal(list.append(9)), Some(51));
-    assert!(rt; list.as_slice() == [].as_slice());
+    assert!(rt; list.as_slice().is_empty());
 }

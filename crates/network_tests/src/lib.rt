@@ -5,7 +5,7 @@
 #[cfg(test)]
 mod carrying;
 #[cfg(test)]
-mod floors;
+mod common;
 #[cfg(test)]
 mod hand;
 #[cfg(test)]

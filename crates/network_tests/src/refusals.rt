@@ -1,26 +1,24 @@
 //! What a network refuses, and with which number first.
-use crate::floors::{KITE, refusal, scan, table};
-use face::record::Phase;
+use crate::common::{network_of, refusal};
 use floor::planariser::Planariser;
 use floor::planariser::gabriel::Gabriel;
 use floor::planariser::relative::Relative;
+use host::scan::ScanHost;
 use host::sides::Switching;
+use host::table::TableHost;
 use network::list::LentList;
 use network::network::Network;
 use network::types::{Carried, HopRecord, Refusal};
 use std::process::Abort;
 use std::test::Fail;
+use worked::TAIL;
 
 // A carry of at most one hop.
 fn carry<H: Switching, P: Planariser>(
     network: &mut Network<H, P>,
     line: u8,
 ) -> Result<Carried, Refusal> {
-    let mut memory = [HopRecord {
-        sender: 0,
-        receiver: 0,
-        phase: Phase::Round,
-    }; 4];
+    let mut memory = [HopRecord::default(); 4];
     network.carry(line, 1, &mut LentList::new(&mut memory))
 }
 
@@ -126,7 +124,7 @@ fn check_idle<H: Switching, P: Planariser>(rt: &impl Abort, network: &mut Networ
     assert_eq!(rt; refusal(network.withdraw(1)), None);
 }
 
-// Checks every refusal on the kite.
+// Checks every refusal on the tail's floor.
 fn check_refusals<H: Switching, P: Planariser>(rt: &impl Abort, network: &mut Network<H, P>) {
     check_idle(rt, network);
     check_openings(rt, network);
@@ -140,20 +138,16 @@ fn check_refusals<H: Switching, P: Planariser>(rt: &impl Abort, network: &mut Ne
 
 #[test]
 fn refuses_in_order(rt: HostRuntime) -> Result<(), Fail> {
-    check_refusals(
-        &rt,
-        &mut Network::new(scan(&rt, rt.alloc(), &KITE, 8)?, Gabriel),
-    );
-    check_refusals(
-        &rt,
-        &mut Network::new(table(&rt, rt.alloc(), &KITE, 8)?, Relative),
-    );
+    let mut scan = network_of::<ScanHost, _>(rt.alloc(), TAIL, Gabriel)?;
+    check_refusals(&rt, &mut scan);
+    let mut table = network_of::<TableHost, _>(rt.alloc(), TAIL, Relative)?;
+    check_refusals(&rt, &mut table);
     Ok(())
 }
 
 #[test]
 fn opens_on_sixteen_lines(rt: HostRuntime) -> Result<(), Fail> {
-    let mut network = Network::new(scan(&rt, rt.alloc(), &KITE, 8)?, Gabriel);
+    let mut network = network_of::<ScanHost, _>(rt.alloc(), TAIL, Gabriel)?;
     for line in 0..=15 {
         assert_eq!(rt; refusal(network.open(line, 0, 3)), None);
     }

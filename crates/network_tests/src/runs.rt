@@ -1,119 +1,160 @@
 //! Runs to the end, within three sends for each kept link.
-use crate::floors::{ISLAND, KITE, MESH, RING, same_end, scan, table};
+use crate::common::{graph_of, refusal};
 use delivery::deliver;
 use face::packet::Refusal;
-use face::record::{End, Link, Record};
+use face::record::{Course, End, Link, Phase, Record};
+use floor::node::Node;
 use floor::planariser::Planariser;
 use floor::planariser::gabriel::Gabriel;
 use floor::planariser::relative::Relative;
+use host::scan::ScanHost;
 use host::sides::{Reading, Switching};
-use kept::links::kept_links;
+use host::table::TableHost;
+use kept::links::KeptGraph;
+use order::Place;
+use plane::Point;
 use std::process::Abort;
 use std::test::Fail;
+use worked::{CROWD, HALF_RING, TAIL, TAIL_AWAY};
 
-// Whether a run came to this end after so many sends.
-fn came(answer: Result<Record, Refusal>, end: End, total: u16) -> bool {
-    match answer {
-        Ok(record) => same_end(record.end, end) && record.total == total,
-        Err(_) => false,
-    }
-}
-
-// Checks the run from node 0 with three sends for each of so many kept links, with just enough, and with one too few.
-fn check_run<R: Reading, P: Planariser>(
-    rt: &impl Abort,
-    host: &R,
-    planariser: &P,
+// A run from node 0: its target, how many links are kept, and its end after how many sends.
+#[derive(Clone, Copy)]
+struct Run {
     target: u8,
     kept: u8,
     total: u8,
     end: End,
-) {
-    let total = u16::from(total);
-    assert_eq!(rt; kept_links(host, planariser), u16::from(kept));
-    let thrice = 3 * u16::from(kept);
-    assert!(rt; came(deliver(host, planariser, 0, target, thrice), end, total));
-    assert!(rt; came(deliver(host, planariser, 0, target, total), end, total));
+}
+
+// To which end a run came, after how many sends.
+fn came(answer: Result<Record, Refusal>) -> Result<(End, u16), Refusal> {
+    answer.map(|record| (record.end, record.total))
+}
+
+// Checks a run with three sends for each kept link, with just enough, and with one too few.
+fn check_run<R: Reading, P: Planariser>(rt: &impl Abort, graph: KeptGraph<'_, R, P>, run: Run) {
+    let kept = u16::from(run.kept);
+    let total = u16::from(run.total);
+    assert_eq!(rt; graph.kept_links(), kept);
+    for budget in [3 * kept, total] {
+        assert_eq!(rt;
+            came(deliver(graph, 0, run.target, budget)),
+            Ok((run.end, total))
+        );
+    }
     assert!(rt; total > 0);
-    assert!(rt;
-        came(
-            deliver(host, planariser, 0, target, total - 1),
-            End::UnderWay,
-            total - 1,
-        )
+    let too_few = total - 1;
+    assert_eq!(rt;
+        came(deliver(graph, 0, run.target, too_few)),
+        Ok((End::UnderWay, too_few))
     );
 }
 
+const TAIL_GABRIEL: Run = Run {
+    target: 3,
+    kept: 4,
+    total: 7,
+    end: End::Delivered,
+};
+
+const TAIL_RELATIVE: Run = Run {
+    target: 3,
+    kept: 3,
+    total: 3,
+    end: End::Delivered,
+};
+
+const AWAY_GABRIEL: Run = Run {
+    target: 3,
+    kept: 3,
+    total: 7,
+    end: End::Unreachable,
+};
+
+const AWAY_RELATIVE: Run = Run {
+    target: 3,
+    kept: 2,
+    total: 4,
+    end: End::Unreachable,
+};
+
+const CROWD_GABRIEL: Run = Run {
+    target: 8,
+    kept: 12,
+    total: 14,
+    end: End::Delivered,
+};
+
 #[test]
 fn ends_in_time(rt: HostRuntime) -> Result<(), Fail> {
-    let kite = scan(&rt, rt.alloc(), &KITE, 8)?;
-    check_run(&rt, &kite, &Gabriel, 3, 4, 7, End::Delivered);
-    check_run(&rt, &kite, &Relative, 3, 3, 3, End::Delivered);
-    let island = table(&rt, rt.alloc(), &ISLAND, 8)?;
-    check_run(&rt, &island, &Gabriel, 3, 3, 7, End::Unreachable);
-    check_run(&rt, &island, &Relative, 3, 2, 4, End::Unreachable);
-    let mesh = table(&rt, rt.alloc(), &MESH, 13)?;
-    check_run(&rt, &mesh, &Gabriel, 8, 12, 14, End::Delivered);
+    let tail: ScanHost = TAIL.host(rt.alloc())?;
+    check_run(&rt, graph_of(&tail, &Gabriel), TAIL_GABRIEL);
+    check_run(&rt, graph_of(&tail, &Relative), TAIL_RELATIVE);
+    let away: TableHost = TAIL_AWAY.host(rt.alloc())?;
+    check_run(&rt, graph_of(&away, &Gabriel), AWAY_GABRIEL);
+    check_run(&rt, graph_of(&away, &Relative), AWAY_RELATIVE);
+    let crowd: TableHost = CROWD.host(rt.alloc())?;
+    check_run(&rt, graph_of(&crowd, &Gabriel), CROWD_GABRIEL);
     Ok(())
 }
 
-// Checks runs round a gap.
+const HALF_RING_WHOLE: Run = Run {
+    target: 5,
+    kept: 5,
+    total: 6,
+    end: End::Delivered,
+};
+
+const HALF_RING_GAP: Run = Run {
+    target: 5,
+    kept: 3,
+    total: 4,
+    end: End::Unreachable,
+};
+
+// Checks runs round a gap, and with node 2 withdrawn.
 fn check_gap<H: Switching, P: Planariser>(rt: &impl Abort, host: &mut H, planariser: &P) {
-    check_run(rt, host, planariser, 5, 5, 6, End::Delivered);
+    check_run(rt, graph_of(host, planariser), HALF_RING_WHOLE);
     host.withdraw(2);
-    check_run(rt, host, planariser, 5, 3, 4, End::Unreachable);
+    check_run(rt, graph_of(host, planariser), HALF_RING_GAP);
 }
 
 #[test]
 fn ends_at_a_gap(rt: HostRuntime) -> Result<(), Fail> {
-    check_gap(&rt, &mut scan(&rt, rt.alloc(), &RING, 10)?, &Gabriel);
-    check_gap(&rt, &mut table(&rt, rt.alloc(), &RING, 10)?, &Relative);
+    let mut scan: ScanHost = HALF_RING.host(rt.alloc())?;
+    check_gap(&rt, &mut scan, &Gabriel);
+    let mut table: TableHost = HALF_RING.host(rt.alloc())?;
+    check_gap(&rt, &mut table, &Relative);
     Ok(())
 }
 
-// Whether a link goes from one node to another.
-fn is_link(link: Option<Link>, from: u8, to: u8) -> bool {
-    match link {
-        Some(link) => link.from == from && link.to == to,
-        None => false,
-    }
-}
+const FIRST: Link = Link { from: 0, to: 1 };
 
-// Whether a record is the opened one of the kite's packet from node 0 to node 3.
-fn is_opened(record: Record) -> bool {
-    record.source.number == 0
-        && record.target.number == 3
-        && record.target.point.x == 13
-        && record.target.point.y == 7
-        && record.holder == 0
-        && record.total == 0
-        && is_link(record.hand, 0, 1)
-        && is_link(record.course.first, 0, 1)
-        && record.course.sends == 0
-        && record.course.best.is_none()
-        && record.course.entry.above == 0
-        && record.course.entry.below == 1
-}
+// The record of the packet from node 0 to node 3 of the tail's floor, not sent yet.
+const OPENED: Record = Record {
+    source: Node {
+        number: 0,
+        point: Point { x: 0, y: 5 },
+    },
+    target: Node {
+        number: 3,
+        point: Point { x: 13, y: 7 },
+    },
+    holder: 0,
+    hand: Some(FIRST),
+    course: Course {
+        phase: Phase::Round,
+        first: Some(FIRST),
+        sends: 0,
+        entry: Place { above: 0, below: 1 },
+        best: None,
+        walk: 0,
+    },
+    total: 0,
+    end: End::UnderWay,
+};
 
-// Whether a run only opened that packet.
-fn only_opened(answer: Result<Record, Refusal>) -> bool {
-    match answer {
-        Ok(record) => is_opened(record) && same_end(record.end, End::UnderWay),
-        Err(_) => false,
-    }
-}
-
-// The number of a refusal, if a run was refused.
-fn refusal(answer: Result<Record, Refusal>) -> Option<u8> {
-    match answer {
-        Ok(_) => None,
-        Err(Refusal::NoNode) => Some(43),
-        Err(Refusal::OutOfService) => Some(44),
-        Err(Refusal::NoWay) => Some(61),
-    }
-}
-
-// Runs on the kite with node 1 withdrawn: source, target, and the refusal.
+// Runs on the tail's floor with node 1 withdrawn: source, target, and the refusal.
 const RUNS: [(u8, u8, Option<u8>); 8] = [
     (0, 3, None),
     (200, 3, Some(43)),
@@ -127,16 +168,15 @@ const RUNS: [(u8, u8, Option<u8>); 8] = [
 
 #[test]
 fn runs_or_refuses(rt: HostRuntime) -> Result<(), Fail> {
-    let mut kite = scan(&rt, rt.alloc(), &KITE, 8)?;
-    assert!(rt; only_opened(deliver(&kite, &Gabriel, 0, 3, 0)));
-    assert!(rt; only_opened(deliver(&kite, &Relative, 0, 3, 0)));
-    assert!(rt; came(deliver(&kite, &Gabriel, 2, 2, 0), End::Delivered, 0));
-    kite.withdraw(1);
+    let mut host: ScanHost = TAIL.host(rt.alloc())?;
+    let gabriel = graph_of(&host, &Gabriel);
+    assert_eq!(rt; deliver(gabriel, 0, 3, 0), Ok(OPENED));
+    assert_eq!(rt; deliver(graph_of(&host, &Relative), 0, 3, 0), Ok(OPENED));
+    assert_eq!(rt; came(deliver(gabriel, 2, 2, 0)), Ok((End::Delivered, 0)));
+    host.withdraw(1);
+    let gabriel = graph_of(&host, &Gabriel);
     for (source, target, number) in RUNS {
-        assert_eq!(rt;
-            refusal(deliver(&kite, &Gabriel, source, target, 12)),
-            number
-        );
+        assert_eq!(rt; refusal(deliver(gabriel, source, target, 12)), number);
     }
     Ok(())
 }

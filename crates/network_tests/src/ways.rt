@@ -1,132 +1,137 @@
 //! Packets hop by hop over the floors worked by hand.
-use crate::floors::{ISLAND, KITE, RING, refusal, same_end, scan, table};
+use crate::common::{network_of, refusal};
 use face::record::End;
 use floor::planariser::Planariser;
 use floor::planariser::gabriel::Gabriel;
 use floor::planariser::relative::Relative;
+use host::making::Making;
+use host::scan::ScanHost;
 use host::sides::Switching;
+use host::table::TableHost;
 use network::network::Network;
-use network::types::Refusal;
 use std::alloc::Global;
 use std::process::Abort;
 use std::test::Fail;
+use worked::{Floor, HALF_RING, NoHost, TAIL, TAIL_AWAY};
 
-// Whether a hop went from one node to another.
-fn went(answer: Result<(u8, u8), Refusal>, sender: u8, receiver: u8) -> bool {
-    match answer {
-        Ok((from, to)) => from == sender && to == receiver,
-        Err(_) => false,
-    }
-}
-
-// Whether a packet came to this end after so many hops.
-fn ended(answer: Result<(End, u16), Refusal>, end: End, total: usize) -> bool {
-    match answer {
-        Ok((came, sends)) => same_end(came, end) && usize::from(sends) == total,
-        Err(_) => false,
-    }
-}
-
-// Checks each hop of a packet from node 0 by its receiver, and its end.
-fn check_way<H: Switching, P: Planariser>(
-    rt: &impl Abort,
-    network: &mut Network<H, P>,
+// A packet from node 0: its target, the receivers of its hops, and its end.
+#[derive(Clone, Copy)]
+struct Way {
     target: u8,
-    receivers: &[u8],
+    receivers: &'static [u8],
     end: End,
-) {
-    assert_eq!(rt; refusal(network.open(3, 0, target)), None);
+}
+
+const TO_ITSELF: Way = Way {
+    target: 0,
+    receivers: &[],
+    end: End::Delivered,
+};
+
+// Checks each hop of a packet, and its end.
+fn check_way<H: Switching, P: Planariser>(rt: &impl Abort, network: &mut Network<H, P>, way: Way) {
+    assert_eq!(rt; refusal(network.open(3, 0, way.target)), None);
     let mut holder = 0;
-    for receiver in receivers {
-        assert!(rt; went(network.hop(3), holder, *receiver));
+    for receiver in way.receivers {
+        assert_eq!(rt; network.hop(3), Ok((holder, *receiver)));
         holder = *receiver;
     }
     assert_eq!(rt; refusal(network.hop(3)), Some(46));
-    assert!(rt; ended(network.collect(3), end, receivers.len()));
+    assert_eq!(rt;
+        network
+            .collect(3)
+            .map(|(end, total)| (end, usize::from(total))),
+        Ok((way.end, way.receivers.len()))
+    );
 }
 
-// Checks the way of a packet to node 3, and that of one to its own source.
-fn check_two<H: Switching, P: Planariser>(
-    rt: &impl Abort,
-    network: &mut Network<H, P>,
-    receivers: &[u8],
-    end: End,
-) {
-    check_way(rt, network, 3, receivers, end);
-    check_way(rt, network, 0, &[], End::Delivered);
-}
-
-// Checks the ways over both hosts.
+// Checks a way over both hosts, and that of a packet to its own source.
 fn check_hosts<P: Planariser + Copy>(
     rt: &impl Abort,
     heap: Global,
-    nodes: &[(u16, u16)],
+    floor: Floor,
     planariser: P,
-    receivers: &[u8],
-    end: End,
-) -> Result<(), Fail> {
-    check_two(
-        rt,
-        &mut Network::new(scan(rt, heap, nodes, 8)?, planariser),
-        receivers,
-        end,
-    );
-    check_two(
-        rt,
-        &mut Network::new(table(rt, heap, nodes, 8)?, planariser),
-        receivers,
-        end,
-    );
+    way: Way,
+) -> Result<(), NoHost> {
+    let mut scan = network_of::<ScanHost, P>(heap, floor, planariser)?;
+    let mut table = network_of::<TableHost, P>(heap, floor, planariser)?;
+    for way in [way, TO_ITSELF] {
+        check_way(rt, &mut scan, way);
+        check_way(rt, &mut table, way);
+    }
+    Ok(())
+}
+
+const ROUND_THE_TRIANGLE: Way = Way {
+    target: 3,
+    receivers: &[1, 2, 0, 1, 0, 2, 3],
+    end: End::Delivered,
+};
+
+const ALONG_THE_TAIL: Way = Way {
+    target: 3,
+    receivers: &[1, 2, 3],
+    end: End::Delivered,
+};
+
+#[test]
+fn delivers_where_a_way_is(rt: HostRuntime) -> Result<(), Fail> {
+    check_hosts(&rt, rt.alloc(), TAIL, Gabriel, ROUND_THE_TRIANGLE)?;
+    check_hosts(&rt, rt.alloc(), TAIL, Relative, ALONG_THE_TAIL)?;
+    Ok(())
+}
+
+const TWICE_ROUND: Way = Way {
+    target: 3,
+    receivers: &[1, 2, 0, 1, 0, 2, 1],
+    end: End::Unreachable,
+};
+
+const THERE_AND_BACK: Way = Way {
+    target: 3,
+    receivers: &[1, 2, 1, 0],
+    end: End::Unreachable,
+};
+
+#[test]
+fn ends_where_no_way_is(rt: HostRuntime) -> Result<(), Fail> {
+    check_hosts(&rt, rt.alloc(), TAIL_AWAY, Gabriel, TWICE_ROUND)?;
+    check_hosts(&rt, rt.alloc(), TAIL_AWAY, Relative, THERE_AND_BACK)?;
+    Ok(())
+}
+
+const ROUND_THE_GAP: Way = Way {
+    target: 5,
+    receivers: &[4, 0, 1, 2, 3, 5],
+    end: End::Delivered,
+};
+
+const BACK_FROM_THE_GAP: Way = Way {
+    target: 5,
+    receivers: &[4, 0, 1, 0],
+    end: End::Unreachable,
+};
+
+// Checks that a packet is delivered just while node 2 is in service.
+fn check_switched<H: Making + Drop, P: Planariser + Drop>(
+    rt: &impl Abort,
+    heap: Global,
+    planariser: P,
+) -> Result<(), NoHost> {
+    let mut network = network_of::<H, P>(heap, HALF_RING, planariser)?;
+    check_way(rt, &mut network, ROUND_THE_GAP);
+    assert_eq!(rt; refusal(network.withdraw(2)), None);
+    check_way(rt, &mut network, BACK_FROM_THE_GAP);
+    assert_eq!(rt; refusal(network.restore(2)), None);
+    check_way(rt, &mut network, ROUND_THE_GAP);
     Ok(())
 }
 
 #[test]
-fn delivers_where_a_way_is(rt: HostRuntime) -> Result<(), Fail> {
-    let round = [1, 2, 0, 1, 0, 2, 3];
-    check_hosts(&rt, rt.alloc(), &KITE, Gabriel, &round, End::Delivered)?;
-    check_hosts(&rt, rt.alloc(), &KITE, Relative, &[1, 2, 3], End::Delivered)
-}
-
-#[test]
-fn ends_where_no_way_is(rt: HostRuntime) -> Result<(), Fail> {
-    let round = [1, 2, 0, 1, 0, 2, 1];
-    check_hosts(&rt, rt.alloc(), &ISLAND, Gabriel, &round, End::Unreachable)?;
-    check_hosts(
-        &rt,
-        rt.alloc(),
-        &ISLAND,
-        Relative,
-        &[1, 2, 1, 0],
-        End::Unreachable,
-    )
-}
-
-// Checks that a packet is delivered just while node 2 is in service.
-fn check_switched<H: Switching, P: Planariser>(rt: &impl Abort, network: &mut Network<H, P>) {
-    check_way(rt, network, 5, &[4, 0, 1, 2, 3, 5], End::Delivered);
-    assert_eq!(rt; refusal(network.withdraw(2)), None);
-    check_way(rt, network, 5, &[4, 0, 1, 0], End::Unreachable);
-    assert_eq!(rt; refusal(network.restore(2)), None);
-    check_way(rt, network, 5, &[4, 0, 1, 2, 3, 5], End::Delivered);
-}
-
-#[test]
 fn goes_round_a_gap(rt: HostRuntime) -> Result<(), Fail> {
-    check_switched(
-        &rt,
-        &mut Network::new(scan(&rt, rt.alloc(), &RING, 10)?, Gabriel),
-    );
-    check_switched(
-        &rt,
-        &mut Network::new(scan(&rt, rt.alloc(), &RING, 10)?, Relative),
-    );
-    check_switched(
-        &rt,
-        &mut Network::new(table(&rt, rt.alloc(), &RING, 10)?, Gabriel),
-    );
-    check_switched(
-        &rt,
-        &mut Network::new(table(&rt, rt.alloc(), &RING, 10)?, Relative),
-    );
+    check_switched::<ScanHost, _>(&rt, rt.alloc(), Gabriel)?;
+    check_switched::<ScanHost, _>(&rt, rt.alloc(), Relative)?;
+    check_switched::<TableHost, _>(&rt, rt.alloc(), Gabriel)?;
+    check_switched::<TableHost, _>(&rt, rt.alloc(), Relative)?;
     Ok(())
 }

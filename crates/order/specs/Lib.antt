@@ -1,3 +1,4 @@
+pub mod Sectors
 pub mod Foremost
 pub mod Directions
 pub mod Places

@@ -3,14 +3,61 @@ ghost use Rattle.std.specs.Prelude.{◌≡◌, ◌≢◌, ◌⊎◌, ◌*ℤ◌,
 ghost use Rattle.plane.specs.Plane.{way};
 ghost use Rattle.order.specs.Arcs.{ArcLaws};
 ghost use Rattle.order.specs.Directions.{direction, earlier, part};
+ghost use Rattle.order.specs.Sectors.{rank};
 ghost use Rattle.order.specs.Turning;
 
 use crate::keeper::Order;
 use crate::{Sense, Start};
 use plane::{Point, inner_product, turn};
 
+// The parts of a turn: its start, before half of it, half of it, beyond, and all of it.
+#[derive(Clone, Copy, PartialEq, Eq, PartialOrd, Ord, Debug)]
+enum Sector {
+    Start,
+    Before,
+    Half,
+    Beyond,
+    Full,
+}
+
+/// A turn round a node: from the direction of another point on, one way or the other.
+#[derive(Clone, Copy, PartialEq, Eq, Debug)]
+pub struct Sweep {
+    pub at: Point,
+    pub from: Point,
+    pub sense: Sense,
+    pub start: Start,
+}
+
+impl Sweep {
+    /// The direction in which `to` lies from the node; there is none from a point to itself.
+    pub fn direction(self, to: Point) -> Option<Direction>
+        ensures none { (self.from ≡ self.at) ⊎ (to ≡ self.at) → result ≡ None }
+        ensures made { self.from ≢ self.at → to ≢ self.at → result ≡ Some (direction self.sense self.start (way self.at self.from) (way self.at to)) }
+    {
+        let Sweep {
+            at,
+            from,
+            sense,
+            start,
+        } = self;
+        if from == at || to == at {
+            return None;
+        }
+        let across = match sense {
+            Sense::Clockwise => turn(at, to, from),
+            Sense::Counter => turn(at, from, to),
+        };
+        Some(Direction {
+            along: inner_product(from, to, at),
+            across,
+            counts: start,
+        })
+    }
+}
+
 /// A way round a node in the frame of its start: what lies along the start, and what across it in the sense of the turn.
-#[derive(Clone, Copy)]
+#[derive(Clone, Copy, Debug)]
 pub struct Direction {
     along: i64,
     across: i64,
@@ -18,45 +65,26 @@ pub struct Direction {
 }
 
 impl Direction {
-    /// The direction from `at` to `to`, turned to from the direction of `start`; there is none from a point to itself.
-    pub fn new(at: Point, start: Point, to: Point, sense: Sense, counts: Start) -> Option<Direction>
-        ensures none { (start ≡ at) ⊎ (to ≡ at) → result ≡ None }
-        ensures made { start ≢ at → to ≢ at → result ≡ Some (direction sense counts (way at start) (way at to)) }
-    {
-        if start.is(at) || to.is(at) {
-            return None;
-        }
-        let across = match sense {
-            Sense::Clockwise => turn(at, to, start),
-            Sense::Counter => turn(at, start, to),
-        };
-        Some(Direction {
-            along: inner_product(start, to, at),
-            across,
-            counts,
-        })
-    }
-
-    // How far round it lies: 0 at the start, 1 before half a turn, 2 at half a turn, 3 beyond, 4 at a full turn.
-    fn sector(&self) -> u8
-        ensures { result ≡ part self.now }
+    // How far round it lies.
+    fn sector(&self) -> Sector
+        ensures { rank result ≡ part self.now }
     {
         if self.across > 0 {
-            1
+            Sector::Before
         } else if self.across < 0 {
-            3
+            Sector::Beyond
         } else if self.along <= 0 {
-            2
+            Sector::Half
         } else {
             match self.counts {
-                Start::NoTurn => 0,
-                Start::FullTurn => 4,
+                Start::NoTurn => Sector::Start,
+                Start::FullTurn => Sector::Full,
             }
         }
     }
 }
 
-// The product, which an `i128` always holds.
+// The product, which an `i128` always holds. (Within `comes_before` the check does not find that it fits.)
 fn product(p: i64, q: i64) -> i128
     ensures { result ≡ p *ℤ q }
 {

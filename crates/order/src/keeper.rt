@@ -3,6 +3,7 @@ ghost use Rattle.std.specs.Prelude.{◌≡◌, Bool, true, false, [], None, Matc
 ghost use Rattle.order.specs.Foremost.{taken, offered, returned, foremost, In, First};
 
 /// What comes before what; two items may tie.
+// Not std's `Ord`: that asks its laws of every value and calls those that tie equal; these hold of proper items, and two that tie differ.
 pub trait Order {
     ghost before: { Self → Self → Bool };
 

@@ -12,21 +12,21 @@ pub mod direction;
 pub mod keeper;
 
 /// Which way round a node.
-#[derive(Clone, Copy)]
+#[derive(Clone, Copy, PartialEq, Eq, Debug)]
 pub enum Sense {
     Clockwise,
     Counter,
 }
 
 /// What the start of a turn itself counts as.
-#[derive(Clone, Copy)]
+#[derive(Clone, Copy, PartialEq, Eq, Debug)]
 pub enum Start {
     NoTurn,
     FullTurn,
 }
 
 /// Where a link crosses the way from source to target: it divides that way as `above` to `below`.
-#[derive(Clone, Copy)]
+#[derive(Clone, Copy, PartialEq, Eq, Debug)]
 pub struct Place {
     pub above: u64,
     pub below: u64,

@@ -7,6 +7,10 @@ pub record Vector : Type 0 where
   pub x : ℤ
   pub y : ℤ
 
+-- the point of two coordinates
+abbrev pub point : ℕ × ℕ → Point
+point coordinates = record { x = coordinates.0; y = coordinates.1 }
+
 -- from a to b
 abbrev pub way : Point → Point → Vector
 way a b = record { x = pos b.x -ℤ pos a.x; y = pos b.y -ℤ pos a.y }

@@ -7,19 +7,20 @@ ghost use Rattle.plane.specs.Laws.{PlaneLaws};
 ghost use Rattle.plane.specs.Plane.{turn, inner, squared, InRange, largest};
 
 /// A point of a storey, in whole centimetres.
-#[derive(Clone, Copy)]
+#[derive(Clone, Copy, PartialEq, Eq, Debug)]
 pub struct Point {
     pub x: u16,
     pub y: u16,
 }
 
-impl Point {
-    /// Whether two points are one.
-    pub fn is(self, other: Point) -> bool
-        ensures same { result ≡ true → self ≡ other }
-        ensures apart { self ≡ other → result ≡ true }
-    {
-        self.x == other.x && self.y == other.y
+/// The point of these coordinates.
+impl From<(u16, u16)> for Point {
+    ghost use Rattle.plane.specs.Plane.{point};
+
+    ghost from_gives = { λ coordinates p. p ≡ point coordinates };
+
+    fn from((x, y): (u16, u16)) -> Point {
+        Point { x, y }
     }
 }
 

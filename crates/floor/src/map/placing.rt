@@ -1,8 +1,8 @@
 ghost use Rattle.std.specs.Prelude.{◌≡◌, [], length, IfOk};
-ghost use Rattle.floor.specs.Lists.{nth, some_is};
+ghost use Rattle.std.specs.List.{slice_get, list_any};
 ghost use Rattle.floor.specs.Charted.{Charted};
 ghost use Rattle.floor.specs.Map.{points_of};
-ghost use Rattle.floor.specs.Placing.{number_of, same, straight, on_a_line, placing, placed};
+ghost use Rattle.floor.specs.Placing.{same, straight, on_a_line, placing, placed, all_placed};
 
 use super::{Map, PlaceRefusal};
 use plane::{Point, turn};
@@ -14,12 +14,14 @@ const CAPACITY: usize = 64;
 // The largest coordinate of a node.
 const FARTHEST: u16 = 32_767;
 
-impl PlaceRefusal {
-    /// The number of the refusal.
-    pub fn number(self) -> u8
-        ensures { result ≡ number_of self }
-    {
-        match self {
+/// The number of the refusal.
+impl From<PlaceRefusal> for u8 {
+    ghost use Rattle.floor.specs.Placing.{number_of};
+
+    ghost from_gives = { λ why number. number ≡ number_of why };
+
+    fn from(why: PlaceRefusal) -> u8 {
+        match why {
             PlaceRefusal::Full => 21,
             PlaceRefusal::OutOfRange => 22,
             PlaceRefusal::Occupied => 23,
@@ -28,40 +30,21 @@ impl PlaceRefusal {
     }
 }
 
-// Whether one of the points is `p`.
-fn occupied(points: &[Point], p: Point) -> bool
-    ensures { result ≡ some_is (same p) points.now }
-{
-    for q in points {
-        if p.is(*q) {
-            return true;
-        }
-    }
-    false
-}
-
 // Whether `p` is on a line with `a` and one of the points.
 fn on_line_with(points: &[Point], a: Point, p: Point) -> bool
-    ensures { result ≡ some_is (λ b. straight a b p) points.now }
+    ensures { result ≡ list_any (λ b. straight a b p) points.now }
 {
-    for b in points {
-        if turn(a, *b, p) == 0 {
-            return true;
-        }
-    }
-    false
+    points.iter().any(|b| turn(a, *b, p) == 0)
 }
 
 // Whether `p` is on a line with two of the points.
 fn on_a_line(points: &[Point], p: Point) -> bool
     ensures { result ≡ on_a_line points.now p }
 {
-    for (i, a) in points.iter().enumerate() {
-        if on_line_with(&points[i + 1..], *a, p) {
-            return true;
-        }
+    match points {
+        [] => false,
+        [a, rest @ ..] => on_line_with(rest, *a, p) || on_a_line(rest, p),
     }
-    false
 }
 
 // The number that a node at `p` gets beside nodes at the points, or why it cannot be placed.
@@ -74,7 +57,7 @@ fn answer(points: &[Point], p: Point) -> Result<u8, PlaceRefusal>
     if p.x > FARTHEST || p.y > FARTHEST {
         return Err(PlaceRefusal::OutOfRange);
     }
-    if occupied(points, p) {
+    if points.contains(&p) {
         return Err(PlaceRefusal::Occupied);
     }
     if on_a_line(points, p) {
@@ -90,6 +73,17 @@ impl Map {
     {
         let points = Vec::with_capacity(heap, CAPACITY)?;
         Ok(Map { points })
+    }
+
+    /// A map of nodes at these coordinates, placed one after the other; those that are refused are left out.
+    pub fn of(heap: Global, coordinates: &[(u16, u16)]) -> Result<Map, AllocError>
+        ensures { IfOk result (λ m. points_of m ≡ all_placed coordinates.now) }
+    {
+        let mut map = Map::new(heap)?;
+        for p in coordinates {
+            let _ = map.place(Point::from(*p));
+        }
+        Ok(map)
     }
 
     /// Places a node at `p` and answers its number. A refusal changes nothing.
@@ -111,7 +105,7 @@ impl Map {
 
     /// Where node `i` is.
     pub fn node(&self, i: u8) -> Option<Point>
-        ensures { result ≡ nth (points_of self.now) i }
+        ensures { result ≡ slice_get (points_of self.now) i }
     {
         self.points.get(usize::from(i)).copied()
     }

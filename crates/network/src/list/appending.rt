@@ -1,14 +1,16 @@
 ghost use Rattle.std.specs.Prelude.{◌≡◌, ◌-◌, length};
-ghost use Rattle.network.specs.Lent.{append_number, items, appending, memory_after, length_after, items_after};
+ghost use Rattle.network.specs.Lent.{items, appending, memory_after, length_after, items_after};
 
 use super::{AppendRefusal, LentList};
 
-impl AppendRefusal {
-    /// The number of the refusal.
-    pub fn number(self) -> u8
-        ensures { result ≡ append_number self }
-    {
-        match self {
+/// The number of the refusal.
+impl From<AppendRefusal> for u8 {
+    ghost use Rattle.network.specs.Lent.{append_number};
+
+    ghost from_gives = { λ refusal number. number ≡ append_number refusal };
+
+    fn from(refusal: AppendRefusal) -> u8 {
+        match refusal {
             AppendRefusal::Full => 51,
         }
     }
@@ -34,7 +36,7 @@ impl<'a, T: Copy> LentList<'a, T> {
     pub fn as_slice(&self) -> &[T]
         ensures { result.now ≡ items self.now.memory.now self.now.len }
     {
-        &self.memory[0..self.len]
+        &self.memory[..self.len]
     }
 
     /// Appends an element; refused exactly when the memory is full, and then nothing changes.

@@ -1,7 +1,7 @@
 use Rattle.kept.proofs.laws.kept_laws.Goals as goal
 use Rattle.kept.proofs.Near.{near}
 use Rattle.kept.proofs.Graph.{exactly, symmetric}
-use Rattle.kept.proofs.Planarisers.{gabriel_lawful, relative_lawful}
+use Rattle.floor.specs.BothLawful.{gabriel_lawful, relative_lawful}
 use Rattle.kept.proofs.Crossing.{do_not_cross}
 use Rattle.kept.proofs.Chains.{chains_join}
 use Rattle.kept.proofs.SameLink.{same_link}

@@ -1,13 +1,11 @@
-use Rattle.std.proofs.Common.{◌∙◌, arith}
+use Rattle.std.proofs.Common.{arith}
+use Rattle.std.proofs.lemmas.Grind.{common_steps}
 use Rattle.floor.specs.Meaning.{neighbours, is_among}
 use Rattle.host.specs.Rows.{bit}
 use Rattle.host.specs.Storeys.{meaning_of}
 use Rattle.host.proofs.Links.{among_back}
-use Rattle.host.proofs.Mending.{mended_none, mended_more}
+use Rattle.host.proofs.Mending.{mended_more}
 use Rattle.host.proofs.rows.Rows.mend.Goals as goal
-
-pub loop-k-init : goal.loop-k-init
-loop-k-init c = mended_none (bit c.args.self.now.row) c.args.i (is_among (neighbours (meaning_of c.args.storey.now) c.args.i))
 
 pub loop-k-preserved : goal.loop-k-preserved
 loop-k-preserved c =
@@ -16,11 +14,4 @@ loop-k-preserved c =
     c.args.i c.loop-k.k near c.links-on.result c.loop-k.invariant c.links-on.ensures c.put.ensures c.put-in-loop-k.ensures
 
 pub returns : goal.returns
-returns c =
-    let m = meaning_of c.args.storey.now in
-    let done = c.loop-k.invariant in
-    record {
-      own = λ b lt. done.own b (omega arith);
-      others = λ a lt. done.others a (omega arith) ∙ among_back m c.args.i a;
-      else_same = done.else_same;
-    }
+returns c = let back = among_back (meaning_of c.args.storey.now) c.args.i in grind (arith, common_steps)

@@ -1,12 +1,17 @@
-use Rattle.std.proofs.Common.{◌<◌, not, length, sym, ap, ◌∙◌, arith}
-use Rattle.host.proofs.Bits.{turn_there, turn_else, other_one}
+use Rattle.std.proofs.Common.{arith, w64}
+use Rattle.std.proofs.lemmas.Grind.{common_steps}
+use Rattle.std.proofs.lemmas.Nat.Bits.{bit_at_set_same, bit_at_set_other, bit_at_clear_same}
+use Rattle.host.proofs.Bits.{clear_other}
 use Rattle.host.proofs.rows.Rows.put.Goals as goal
 
-pub returns-then-has-on : goal.returns-then-has-on
-returns-then-has-on c =
-    let rows = c.args.self.now.row in
-    let within : c.args.i < length rows = omega arith in
-    record {
-      there = turn_there rows c.args.i c.args.j within c.requires.1 ∙ sym (ap not c.has.ensures) ∙ other_one c.has.result c.args.on c.if-has-on.true;
-      else_same = λ a b ne. turn_else rows c.args.i c.args.j a b within c.requires.1 ne;
-    }
+pub returns-then-on-clause-there : goal.returns-then-on-clause-there
+returns-then-on-clause-there c = grind (arith, common_steps, bit_at_set_same w64)
+
+pub returns-then-on-clause-else_same : goal.returns-then-on-clause-else_same
+returns-then-on-clause-else_same c = grind (arith, common_steps, bit_at_set_other w64)
+
+pub returns-else-on-clause-there : goal.returns-else-on-clause-there
+returns-else-on-clause-there c = grind (arith, common_steps, bit_at_clear_same w64)
+
+pub returns-else-on-clause-else_same : goal.returns-else-on-clause-else_same
+returns-else-on-clause-else_same c = grind (arith, common_steps, clear_other)

@@ -1,7 +1,7 @@
-use Rattle.std.proofs.Common.{sym, ◌∙◌}
-use Rattle.floor.specs.Map.{points_of}
+use Rattle.std.proofs.Common.{arith}
+use Rattle.std.proofs.lemmas.Grind.{common_steps}
 use Rattle.host.specs.Radios.{length_radios}
 use Rattle.host.proofs.storey.Storey.count.Goals as goal
 
 pub returns : goal.returns
-returns c = c.count.ensures ∙ sym (length_radios (points_of c.args.self.now.map) c.args.self.now.serving)
+returns c = grind (arith, common_steps, length_radios)

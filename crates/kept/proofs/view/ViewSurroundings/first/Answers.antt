@@ -1,75 +1,80 @@
-use Rattle.std.proofs.Common.{◌≡◌, Bool, true, false, cond, ◌≢◌, sym, refl, ap, ◌∙◌, subst, arith}
-use Rattle.kept.specs.Kept.{node_at}
-use Rattle.plane.specs.declared.Point.{Point}
-use Rattle.order.specs.declared.keeper.Keeper.{Keeper}
-use Rattle.kept.specs.declared.bearing.Bearing.{Bearing}
+use Rattle.std.proofs.Common.{◌≡◌, ℕ, true, false, ◌∷◌, ◌≢◌, List, Some, None, sym, ap, ◌∙◌, subst, refl, inl, arith, rules}
 use Rattle.floor.specs.declared.node.Node.{Node}
-use Rattle.kept.proofs.Asking.{asked_some}
-use Rattle.kept.proofs.Rounding.{foremost_at_first, foremost_at_last, foremost_past, foremost_offered, offered_there, offer_of, node_of, asked_apart}
+use Rattle.floor.specs.Meaning.{neighbours}
+use Rattle.host.specs.Remaining.{remaining_of}
+use Rattle.host.proofs.Asking.{asked_first}
+use Rattle.kept.specs.Kept.{blocked, node_at}
+use Rattle.kept.specs.declared.bearing.Bearing.{Bearing}
+use Rattle.order.specs.Foremost.{taken, offered}
+use Rattle.order.specs.Directions.{earlier}
+use Rattle.kept.proofs.Rounding.{ForemostBut, foremost_at_first, foremost_past, foremost_offered, foremost_untaken, blocked_there, given_there, given}
 use Rattle.kept.proofs.view.ViewSurroundings.first.Goals as goal
-use Rattle.kept.proofs.view.ViewSurroundings.first.Goals.{in-Some-kept_bearing, in_default-kept_bearing}
+use Rattle.kept.proofs.view.ViewSurroundings.first.Goals.{else-would_take-via-then-would_take+else-not-is_blocked, else-would_take-via-else-would_take}
 
 pub loop-w-init : goal.loop-w-init
-loop-w-init g c = (c.node-here.ensures, foremost_at_first _ _ _ _ _ _ c.new-keeper.result.held c.new-keeper.ensures)
+loop-w-init g c =
+    let m = g.R.Reading.meaning c.args.self.now.graph.host.now in
+    let all : remaining_of g.R.Reading.meaning c.into_iter-w-iterator.result ≡ neighbours m c.args.self.now.number = search (rules, asked_first) in
+    foremost_at_first _ m _ _ _ _ (g.met.R.Reading.mapped c.args.self.now.graph.host.now) _ _ all c.new-keeper.ensures
 
-pub overflow_add-from : goal.overflow_add-from
-overflow_add-from g c =
-    let few = (g.met.R.Reading.mapped c.args.self.now.host.now).few in
-    let (f, h, b) = asked_some (g.R.Reading.meaning c.args.self.now.host.now) c.args.self.now.number c.loop-w.from c.in-Some.w c.in-Some.ensures in
-    omega arith
+pub loop-w-preserved-then-not-is_blocked : goal.loop-w-preserved-then-not-is_blocked
+loop-w-preserved-then-not-is_blocked g c =
+    let b = g.P.Planariser.blocking c.args.self.now.graph.planariser.now in
+    let m = g.R.Reading.meaning c.args.self.now.graph.host.now in
+    let i = c.args.self.now.number in
+    let w = c.in-Some.w in
+    let far : c.args.towards ≢ (node_at m i).point = λ e.
+    let here : c.args.towards ≡ c.node-here.result.point = e ∙ ap (λ (n : Node). n.point) (sym c.node-here.ensures) in
+    search rules in
+    let front : remaining_of g.R.Reading.meaning c.loop-w.w-iterator ≡ w ∷ remaining_of g.R.Reading.meaning c.next.new.self = c.in-Some.ensures.steps in
+    let held = subst (λ (ns : List Node). ForemostBut b m i c.args.sense c.args.start c.args.towards ns c.loop-w.keeper.held) front c.loop-w.invariant in
+    let bearing : c.bearing.result ≡ Some (given b m i c.args.sense c.args.start c.args.towards w) =
+    given_there m i c.args.sense c.args.start c.args.towards w c.bearing.result c.node-here.result c.node-here.ensures c.bearing.ensures far (held.apart w (inl refl)) in
+    let found : Some c.in-Some-bearing.bearing ≡ Some (given b m i c.args.sense c.args.start c.args.towards w) = sym c.in-Some-bearing.is ∙ bearing in
+    let same : c.in-Some-bearing.bearing ≡ given b m i c.args.sense c.args.start c.args.towards w = cc in
+    let free : blocked b (node_at m i).point w (neighbours m i) ≡ false = sym (blocked_there b m i w c.node-here.result c.is_blocked.result c.node-here.ensures c.is_blocked.ensures) ∙ c.if-not-is_blocked.true in
+    subst (ForemostBut b m i c.args.sense c.args.start c.args.towards (remaining_of g.R.Reading.meaning c.next.new.self))
+    (sym (c.offer.ensures.after ∙ ap (offered (λ (x y : Bearing). earlier x.direction y.direction) c.loop-w.keeper.held) same))
+    (foremost_offered b m i c.args.sense c.args.start c.args.towards far _ _ w held free)
 
-pub loop-w-smaller : goal.loop-w-smaller
-loop-w-smaller g c =
-    let few = (g.met.R.Reading.mapped c.args.self.now.host.now).few in
-    let (f, h, b) = asked_some (g.R.Reading.meaning c.args.self.now.host.now) c.args.self.now.number c.loop-w.from c.in-Some.w c.in-Some.ensures in
-    omega arith
-
--- the point turned from is not the node's own
-away : (here : Node) (t : Point) (r : Bool) → r ≡ false → (t ≡ here.point → r ≡ true) → (n : Node) → here ≡ n → t ≢ n.point
-away here t r f h n e k = let z : true ≡ false = sym (h (k ∙ ap (λ (x : Node). x.point) (sym e))) ∙ f in absurd (subst (λ (b : Bool). cond b (Unit {0}) ⊥) z tt)
+pub loop-w-preserved-else-would_take : goal.loop-w-preserved-else-would_take
+loop-w-preserved-else-would_take g c =
+    let b = g.P.Planariser.blocking c.args.self.now.graph.planariser.now in
+    let m = g.R.Reading.meaning c.args.self.now.graph.host.now in
+    let i = c.args.self.now.number in
+    let w = c.in-Some.w in
+    let far : c.args.towards ≢ (node_at m i).point = λ e.
+    let here : c.args.towards ≡ c.node-here.result.point = e ∙ ap (λ (n : Node). n.point) (sym c.node-here.ensures) in
+    search rules in
+    let front : remaining_of g.R.Reading.meaning c.loop-w.w-iterator ≡ w ∷ remaining_of g.R.Reading.meaning c.next.new.self = c.in-Some.ensures.steps in
+    let held = subst (λ (ns : List Node). ForemostBut b m i c.args.sense c.args.start c.args.towards ns c.loop-w.keeper.held) front c.loop-w.invariant in
+    let bearing : c.bearing.result ≡ Some (given b m i c.args.sense c.args.start c.args.towards w) =
+    given_there m i c.args.sense c.args.start c.args.towards w c.bearing.result c.node-here.result c.node-here.ensures c.bearing.ensures far (held.apart w (inl refl)) in
+    let found : Some c.in-Some-bearing.bearing ≡ Some (given b m i c.args.sense c.args.start c.args.towards w) = sym c.in-Some-bearing.is ∙ bearing in
+    let same : c.in-Some-bearing.bearing ≡ given b m i c.args.sense c.args.start c.args.towards w = cc in
+    elim c.else-would_take.branch [
+      | else-would_take-via-then-would_take+else-not-is_blocked v ↦
+          let shut : blocked b (node_at m i).point w (neighbours m i) ≡ true = sym (blocked_there b m i w c.node-here.result v.is_blocked.result c.node-here.ensures v.is_blocked.ensures) ∙ v.if-not-is_blocked.false in
+          foremost_past b m i c.args.sense c.args.start c.args.towards _ _ w held shut
+      | else-would_take-via-else-would_take v ↦
+          let left : taken (λ (x y : Bearing). earlier x.direction y.direction) c.loop-w.keeper.held (given b m i c.args.sense c.args.start c.args.towards w) ≡ false =
+          sym (c.would_take.ensures ∙ ap (taken (λ (x y : Bearing). earlier x.direction y.direction) c.loop-w.keeper.held) same) ∙ v.if-would_take.false in
+          foremost_untaken b m i c.args.sense c.args.start c.args.towards far _ _ w held left
+    ]
 
 pub loop-w-preserved : goal.loop-w-preserved
 loop-w-preserved g c =
-    let b = g.P.Planariser.blocking c.args.self.now.planariser.now in
-    let m = g.R.Reading.meaning c.args.self.now.host.now in
+    let b = g.P.Planariser.blocking c.args.self.now.graph.planariser.now in
+    let m = g.R.Reading.meaning c.args.self.now.graph.host.now in
     let i = c.args.self.now.number in
     let w = c.in-Some.w in
-    let here = c.loop-w.invariant.0 in
-    let far : c.args.towards ≢ (node_at m i).point = away c.node-here.result c.args.towards c.is.result c.if-is.false c.is.ensures.apart (node_at m i) here in
-    let near : w.point ≢ (node_at m i).point = asked_apart m (g.met.R.Reading.mapped c.args.self.now.host.now) i c.loop-w.from w c.in-Some.ensures in
-    let offer : c.kept_bearing.result ≡ offer_of b m i c.args.sense c.args.start c.args.towards w =
-    offered_there b m i c.args.sense c.args.start c.args.towards w c.kept_bearing.result c.node-here.result here c.kept_bearing.ensures far near in (
-      here,
-      elim c.match-kept_bearing.branch [
-        | in-Some-kept_bearing v ↦
-            foremost_offered b m i c.args.sense c.args.start c.args.towards far c.loop-w.from c.loop-w.keeper.held w v.in-Some-kept_bearing.bearing c.match-kept_bearing.keeper.held
-            c.loop-w.invariant.1 c.in-Some.ensures (sym v.in-Some-kept_bearing.is ∙ offer)
-            (ap (λ (k : Keeper Bearing). k.held) v.keeper-is ∙ v.offer.ensures.after)
-        | in_default-kept_bearing v ↦
-            foremost_past b m i c.args.sense c.args.start c.args.towards c.loop-w.from c.loop-w.keeper.held w c.match-kept_bearing.keeper.held
-            c.loop-w.invariant.1 c.in-Some.ensures (sym v.in_default-kept_bearing.is ∙ offer) (ap (λ (k : Keeper Bearing). k.held) v.keeper-is)
-      ],
-    )
-
-pub returns-in-Some-into_held : goal.returns-in-Some-into_held
-returns-in-Some-into_held g c =
-    let b = g.P.Planariser.blocking c.args.self.now.planariser.now in
-    let m = g.R.Reading.meaning c.args.self.now.host.now in
-    let i = c.args.self.now.number in
-    let far : c.args.towards ≢ (node_at m i).point = away c.node-here.result c.args.towards c.is.result c.if-is.false c.is.ensures.apart (node_at m i) c.loop-w.invariant.0 in
-    record {
-      nowhere = λ e. absurd (far e);
-      found = λ _. ap (node_of b m i c.args.sense c.args.start c.args.towards) c.in-Some-into_held.ensures
-          ∙ foremost_at_last b m i c.args.sense c.args.start c.args.towards c.loop-w.from c.loop-w.keeper.held c.loop-w.invariant.1 c.in_default.ensures;
-    }
-
-pub returns-in-None : goal.returns-in-None
-returns-in-None g c =
-    let b = g.P.Planariser.blocking c.args.self.now.planariser.now in
-    let m = g.R.Reading.meaning c.args.self.now.host.now in
-    let i = c.args.self.now.number in
-    record {
-      nowhere = λ _. refl;
-      found = λ _. ap (node_of b m i c.args.sense c.args.start c.args.towards) c.in-None.ensures
-          ∙ foremost_at_last b m i c.args.sense c.args.start c.args.towards c.loop-w.from c.loop-w.keeper.held c.loop-w.invariant.1 c.in_default.ensures;
-    }
+    let far : c.args.towards ≢ (node_at m i).point = λ e.
+    let here : c.args.towards ≡ c.node-here.result.point = e ∙ ap (λ (n : Node). n.point) (sym c.node-here.ensures) in
+    search rules in
+    let front : remaining_of g.R.Reading.meaning c.loop-w.w-iterator ≡ w ∷ remaining_of g.R.Reading.meaning c.next.new.self = c.in-Some.ensures.steps in
+    let held = subst (λ (ns : List Node). ForemostBut b m i c.args.sense c.args.start c.args.towards ns c.loop-w.keeper.held) front c.loop-w.invariant in
+    let bearing : c.bearing.result ≡ Some (given b m i c.args.sense c.args.start c.args.towards w) =
+    given_there m i c.args.sense c.args.start c.args.towards w c.bearing.result c.node-here.result c.node-here.ensures c.bearing.ensures far (held.apart w (inl refl)) in
+    let none : None ≡ Some (given b m i c.args.sense c.args.start c.args.towards w) = sym c.in_default.is ∙ bearing in
+    let nothing : ◌≡◌ {A = ℕ} 0 1 = cc in
+    absurd (omega arith)

@@ -1,7 +1,6 @@
-use Rattle.std.proofs.Common.{List, Ok, Option, sym, refl, ap, subst}
+use Rattle.std.proofs.Common.{List, Ok, Option, is_some, sym, refl, ap, subst}
 use Rattle.face.specs.declared.record.Record.{Record}
 use Rattle.network.specs.Calls.{net, CarryDoes}
-use Rattle.network.specs.Network.{is_some}
 use Rattle.network.proofs.CarryCall.{carry_made}
 use Rattle.network.proofs.network.Network.carry.Goals as goal
 
@@ -17,8 +16,10 @@ returns g c =
           (λ (ls : List (Option Record)). CarryDoes b n c.args.line c.args.budget list.memory.now list.len (net m ls) (Ok carried.result) carried.new.list.memory.now carried.new.list.len)
           (sym c.put.ensures)
           (carry_made b n c.args.line c.args.budget list.memory.now list.len c.in_ok-packet.packet c.in_ok-packet.ensures
-          (ap is_some c.in-Some.is) carried.new.packet carried.result _ _ carried.ensures.packet carried.ensures.answer carried.ensures.list);
+          (ap is_some c.in-Some.is) carried.new.packet carried.result _ _
+          (simp (c.graph.ensures.host, c.graph.ensures.planariser) at carried.ensures.packet)
+          (simp (c.graph.ensures.host, c.graph.ensures.planariser) at carried.ensures.answer)
+          (simp (c.graph.ensures.host, c.graph.ensures.planariser) at carried.ensures.list));
       lent = carried.ensures.lent;
-      host = refl;
-      planariser = refl;
+      floor = (refl, refl);
     }

@@ -1,18 +1,11 @@
-use Rattle.std.proofs.Common.{List, Option, refl, ap}
-use Rattle.face.specs.declared.record.Record.{Record}
 use Rattle.delivery.proofs.Running.{every}
-use Rattle.network.specs.Calls.{net}
 use Rattle.network.proofs.Pasts.{law_of_pasts}
 use Rattle.network.proofs.network.Network.new.Goals as goal
 
-pub returns : goal.returns
-returns g c =
-    let m = g.H.Reading.meaning c.args.host in
-    let b = g.P.Planariser.blocking c.args.planariser in
-    record {
-      empty = ap (λ (ls : List (Option Record)). net m ls) c.new.ensures;
-      host = refl;
-      planariser = refl;
-      delivers = law_of_pasts every m b (g.met.H.Reading.mapped c.args.host) (g.met.P.Planariser.lawful c.args.planariser);
-      always = law_of_pasts every;
-    }
+pub returns-clause-delivers : goal.returns-clause-delivers
+returns-clause-delivers g c =
+    law_of_pasts every (g.H.Reading.meaning c.args.host) (g.P.Planariser.blocking c.args.planariser)
+    (g.met.H.Reading.mapped c.args.host) (g.met.P.Planariser.lawful c.args.planariser)
+
+pub returns-clause-always : goal.returns-clause-always
+returns-clause-always g c = law_of_pasts every

@@ -1,0 +1,50 @@
+//! The neighbours of a node, one after the other.
+ghost use Rattle.std.specs.Prelude.{◌≡◌};
+ghost use Rattle.std.specs.Iterator.{YieldsFirst, item_count};
+
+use crate::sides::Reading;
+use floor::node::Node;
+
+/// The neighbours of a node, the lowest number first.
+#[derive(Drop)]
+pub struct Neighbours<'a, R: Reading> {
+    host: &'a R,
+    of: u8,
+    from: u8,
+}
+
+impl<'a, R: Reading> Neighbours<'a, R> {
+    /// All neighbours of node `i`.
+    pub fn of(host: &'a R, i: u8) -> Neighbours<'a, R>
+        ensures { (result.host.now ≡ host.now) × ((result.of ≡ i) × (result.from ≡ 0)) }
+    {
+        Neighbours::numbered_from(host, i, 0)
+    }
+
+    /// The neighbours of node `i` whose numbers are at least `j`.
+    pub fn numbered_from(host: &'a R, i: u8, j: u8) -> Neighbours<'a, R>
+        ensures { (result.host.now ≡ host.now) × ((result.of ≡ i) × (result.from ≡ j)) }
+    {
+        Neighbours {
+            host,
+            of: i,
+            from: j,
+        }
+    }
+}
+
+impl<R: Reading> Iterator for Neighbours<'_, R> {
+    type Item = Node;
+
+    ghost use Rattle.host.specs.Remaining.{remaining_of};
+
+    ghost next_gives = { YieldsFirst (remaining_of R.Reading.meaning) };
+
+    ghost remaining = { item_count (remaining_of R.Reading.meaning) };
+
+    fn next(&mut self) -> Option<Node> {
+        let node = self.host.next_neighbour(self.of, self.from)?;
+        self.from = node.number + 1;
+        Some(node)
+    }
+}

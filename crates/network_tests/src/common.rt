@@ -1,0 +1,33 @@
+//! What tests of several kinds ask.
+use floor::planariser::Planariser;
+use host::making::Making;
+use host::sides::Reading;
+use kept::links::KeptGraph;
+use network::network::Network;
+use std::alloc::Global;
+use worked::{Floor, NoHost};
+
+/// What a planariser keeps of a host's links.
+pub fn graph_of<'a, R: Reading, P: Planariser>(
+    host: &'a R,
+    planariser: &'a P,
+) -> KeptGraph<'a, R, P> {
+    KeptGraph { host, planariser }
+}
+
+/// A network of a floor.
+pub fn network_of<H: Making, P: Planariser + Drop>(
+    heap: Global,
+    floor: Floor,
+    planariser: P,
+) -> Result<Network<H, P>, NoHost> {
+    Ok(Network::new(floor.host(heap)?, planariser))
+}
+
+/// The number with which a call was refused, if it was.
+pub fn refusal<T: Drop, E: Drop>(answer: Result<T, E>) -> Option<u8>
+where
+    u8: From<E>,
+{
+    answer.err().map(u8::from)
+}
