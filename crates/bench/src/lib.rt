@@ -8,6 +8,7 @@ use floor::planariser::Planariser;
 use floor::planariser::gabriel::Gabriel;
 use floor::planariser::relative::Relative;
 use floor::planariser::rule::Rule;
+use host::kind::HostKind;
 use host::making::Making;
 use host::scan::ScanHost;
 use host::sides::Switching;
@@ -50,6 +51,10 @@ fn map_of(heap: Global, xs: &[u16], ys: &[u16]) -> Result<Map, AllocError> {
     Ok(map)
 }
 
+// The most sends of a packet: three for each of the 3 * 64 - 6 = 186 links that 64 nodes can keep without a crossing.
+// That is not proved, so no library says it, and each program has its own.
+const MOST_SENDS: usize = 558;
+
 // Runs one packet to its end on line 0.
 fn run<H: Switching, P: Planariser>(
     network: &mut Network<H, P>,
@@ -57,7 +62,7 @@ fn run<H: Switching, P: Planariser>(
     target: u8,
     sums: &mut Sums,
 ) {
-    let mut memory = [HopRecord::default(); 558];
+    let mut memory = [HopRecord::default(); MOST_SENDS];
     let mut list = LentList::new(&mut memory);
     let _ = network.open(0, source, target);
     let _ = network.carry(0, u16::MAX, &mut list);
@@ -107,13 +112,16 @@ pub extern "C" fn kalzhuna_pairs(
     host: u8,
     times: u32,
 ) -> Sums {
-    let (Ok(map), Ok(rule)) = (map_of(heap, xs, ys), Rule::try_from(planariser)) else {
+    let (Ok(map), Ok(rule), Ok(kind)) = (
+        map_of(heap, xs, ys),
+        Rule::try_from(planariser),
+        HostKind::try_from(host),
+    ) else {
         return Sums::default();
     };
-    let sums = match host {
-        1 => pairs_over::<ScanHost>(map, reach, rule, times),
-        2 => pairs_over::<TableHost>(map, reach, rule, times),
-        _ => None,
+    let sums = match kind {
+        HostKind::Scan => pairs_over::<ScanHost>(map, reach, rule, times),
+        HostKind::Table => pairs_over::<TableHost>(map, reach, rule, times),
     };
     sums.unwrap_or_default()
 }

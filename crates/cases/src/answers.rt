@@ -3,7 +3,7 @@ use face::record::{End, Phase};
 use network::types::Stopper;
 use std::io;
 
-/// Tells the number of a refusal.
+/// Tells the number of a refusal. Not shared with the account, which words refusals otherwise in its output.
 pub fn tell_refusal<E>(rt: &impl Print, refusal: E) -> io::Result<()>
 where
     u8: From<E>,

@@ -17,10 +17,11 @@ use network::types::{HopRecord, Refusal};
 use std::alloc::Global;
 use std::io;
 
-// The most sends of a packet: three for each of the links that 64 nodes can keep without a crossing, 186.
+// The most sends of a packet: three for each of the 3 * 64 - 6 = 186 links that 64 nodes can keep without a crossing.
+// That is not proved, so no library says it, and each program has its own.
 const MOST_SENDS: usize = 558;
 
-// Tells that a call was accepted, or the number of its refusal.
+// Tells that a call was accepted, or the number of its refusal: by the words of this program, which are not the account's.
 fn tell_done(rt: &impl Print, done: &str, answer: Result<(), Refusal>) -> io::Result<()> {
     match answer {
         Ok(()) => println!(rt; "{done}"),
@@ -87,18 +88,12 @@ struct Trial<H> {
 impl<H: Switching> Trial<H> {
     // The kept graph of the host that stays as it is.
     fn whole(&self) -> KeptGraph<'_, H, Rule> {
-        KeptGraph {
-            host: &self.whole,
-            planariser: &self.rule,
-        }
+        KeptGraph::new(&self.whole, &self.rule)
     }
 
     // The kept graph of the host that a node goes out of.
     fn changed(&self) -> KeptGraph<'_, H, Rule> {
-        KeptGraph {
-            host: &self.changed,
-            planariser: &self.rule,
-        }
+        KeptGraph::new(&self.changed, &self.rule)
     }
 
     // Tells a packet's next send when a node has gone out of service, and puts that back.
@@ -160,13 +155,9 @@ impl Floor<'_> {
     }
 
     // Tells what comes of each call over a kind of host, under each planariser.
-    fn tell_over<H: Making + Drop>(
-        &self,
-        rt: &(impl Print + AllocGlobal),
-        kind: &str,
-    ) -> anyhow::Result<()> {
+    fn tell_over<H: Making + Drop>(&self, rt: &(impl Print + AllocGlobal)) -> anyhow::Result<()> {
         for rule in [Rule::Gabriel, Rule::Relative] {
-            print!(rt; "floor {kind} {rule} ")?;
+            print!(rt; "floor {} {rule} ", H::KIND)?;
             let mut trial = self.trial::<H>(rt.alloc(), rule)?;
             println!(rt; "{}", trial.whole().kept_links())?;
             for line in self.calls.lines() {
@@ -191,6 +182,6 @@ pub fn tell<'a>(
         points,
         calls,
     };
-    floor.tell_over::<ScanHost>(rt, "scan")?;
-    floor.tell_over::<TableHost>(rt, "table")
+    floor.tell_over::<ScanHost>(rt)?;
+    floor.tell_over::<TableHost>(rt)
 }

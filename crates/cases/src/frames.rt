@@ -1,4 +1,5 @@
 //! Lines that are read as frames.
+use crate::answers::tell_refusal;
 use frame::{Frame, FrameFault, LineFault, read_line};
 use std::io;
 
@@ -30,10 +31,11 @@ pub fn tell(rt: &impl Print, lines: &str) -> anyhow::Result<()> {
     for line in lines.lines() {
         match read_line(line.as_bytes()) {
             Ok(frame) => tell_frame(rt, frame)?,
-            Err(FrameFault::Line(LineFault::NotDigit { at })) => println!(rt;
-                "refused 11 at {at}"
+            Err(fault @ FrameFault::Line(LineFault::NotDigit { at })) => println!(rt;
+                "refused {} at {at}",
+                u8::from(fault)
             )?,
-            Err(fault) => println!(rt; "refused {}", u8::from(fault))?,
+            Err(fault) => tell_refusal(rt, fault)?,
         }
     }
     Ok(())

@@ -74,6 +74,7 @@ fn tell_record(rt: &impl Print, record: Record) -> io::Result<()> {
 }
 
 // The record of a packet after a send that leaves over one graph and is received over another: as it was where it has ended.
+// Programs and tests stand alone, each with such a function; no call of the library needs two graphs.
 fn sent<R: Reading, P: Planariser>(
     before: KeptGraph<'_, R, P>,
     after: KeptGraph<'_, R, P>,

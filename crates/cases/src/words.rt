@@ -15,10 +15,7 @@ where
 /// The point of two numbers with that mark between them.
 pub fn point(text: &str, between: char) -> Option<Point> {
     let (x, y) = text.split_once(between)?;
-    Some(Point {
-        x: x.parse::<u16>().ok()?,
-        y: y.parse::<u16>().ok()?,
-    })
+    Some(Point::from((x.parse().ok()?, y.parse().ok()?)))
 }
 
 /// The map of some points; one that cannot be placed is left out.

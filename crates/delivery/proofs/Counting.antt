@@ -10,7 +10,7 @@ use Rattle.plane.proofs.Nearer as plane
 use Rattle.plane.proofs.Crossings.{nears, count_law}
 use Rattle.order.specs.declared.Place.{Place}
 use Rattle.order.specs.Places.{nearer}
-use Rattle.floor.specs.Lists.{differ}
+use Rattle.floor.specs.Numbers.{differ}
 use Rattle.floor.specs.Meaning.{Meaning, Serving}
 use Rattle.floor.specs.Planar.{Blocks, Lawful}
 use Rattle.kept.proofs.Near.{apart_differ}

@@ -2,19 +2,12 @@
 use Rattle.std.proofs.Common.{ℕ, suc, ◌*◌, ◌≤◌, Bool, true, false, cond, not, ◌&&◌, ltb, List, [], ◌∷◌, length, Some, None, Option, mul-le-mul, arith}
 use Rattle.floor.specs.declared.node.Node.{Node}
 use Rattle.floor.specs.declared.node.Radio.{Radio}
-use Rattle.std.specs.List.{filter, list_any}
-use Rattle.floor.specs.Lists.{differ}
+use Rattle.std.specs.List.{list_any}
+use Rattle.kept.proofs.Counting.{filter_few}
+use Rattle.floor.specs.Numbers.{differ}
 use Rattle.floor.specs.Meaning.{Meaning, radio, hear, heard, heard_by, neighbours}
 use Rattle.floor.specs.Planar.{Blocks}
 use Rattle.kept.specs.Kept.{kept_of, kept_neighbours, kept_from, kept_links}
-
-those_few : {A : Type 0} (test : A → Bool) (xs : List A) → length (filter test xs) ≤ length xs
-those_few test [] = omega arith
-those_few {A} test (x ∷ xs) = go (test x) (those_few test xs)
-  where
-    go : (u : Bool) → length (filter test xs) ≤ length xs → length (cond u (x ∷ filter test xs) (filter test xs)) ≤ suc (length xs)
-    go true h = omega arith
-    go false h = omega arith
 
 heard_few : (reach i : ℕ) (p : Radio) (j : ℕ) (qs : List Radio) → length (heard reach i p j qs) ≤ length qs
 heard_few reach i p j [] = omega arith
@@ -38,13 +31,13 @@ kept_few b m i = go (radio m i)
     go : (o : Option Radio) → length (kept_of b (neighbours m i) o) ≤ length m.nodes
     go None = omega arith
     go (Some p) =
-        let h = those_few (λ (v : Node). not (list_any (λ (w : Node). differ w.number v.number && b p.point v.point w.point) (neighbours m i))) (neighbours m i) in
+        let h = filter_few (λ (v : Node). not (list_any (λ (w : Node). differ w.number v.number && b p.point v.point w.point) (neighbours m i))) (neighbours m i) in
         omega (arith, h, neighbours_few m i)
 
 from_few : (b : Blocks) (m : Meaning) (i : ℕ) (ps : List Radio) → kept_from b m i ps ≤ length ps * length m.nodes
 from_few b m i [] = omega arith
 from_few b m i (p ∷ ps) =
-    let h = those_few (λ (v : Node). ltb i v.number) (kept_neighbours b m i) in
+    let h = filter_few (λ (v : Node). ltb i v.number) (kept_neighbours b m i) in
     let l = from_few b m (suc i) ps in
     omega (arith, h, l, kept_few b m i)
 

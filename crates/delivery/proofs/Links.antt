@@ -4,11 +4,11 @@ use native.Mathlib.Decide.{dec_le, ℕ_discrete}
 use Rattle.floor.specs.declared.node.Node.{Node}
 use Rattle.floor.specs.declared.node.Radio.{Radio}
 use Rattle.std.specs.List.{filter}
-use Rattle.floor.specs.Lists.{differ}
+use Rattle.floor.specs.Numbers.{differ}
 use Rattle.floor.specs.Meaning.{Meaning, Serving, radio, heard, heard_by, hear, is_among}
 use Rattle.floor.specs.Planar.{Blocks, Lawful}
 use Rattle.kept.specs.Kept.{kept_of, kept_neighbours, kept_from, kept_links, blocked}
-use Rattle.kept.proofs.Lists.{Has, alike, fails, some_found, found_some, those_has, has_those}
+use Rattle.kept.proofs.Lists.{Has, alike, fails, some_found, found_some, filter_has, has_filter}
 use Rattle.kept.proofs.Near.{is_same, same_is, both, pair}
 use Rattle.orbit.proofs.Count.{bit}
 use Rattle.orbit.proofs.Darts.{links, degree}
@@ -91,9 +91,9 @@ rising_heard reach i p j (q ∷ qs) = go (differ i j && hear reach p q) (rising_
     go true r = (omega arith, r)
     go false r = rising_weaker j (suc j) (omega arith) (heard reach i p (suc j) qs) r
 
-rising_those : (test : Node → Bool) (j : ℕ) (xs : List Node) → Rising j xs → Rising j (filter test xs)
-rising_those test j [] r = tt
-rising_those test j (x ∷ xs) (h, r) = go (test x) (rising_those test (suc x.number) xs r)
+rising_filter : (test : Node → Bool) (j : ℕ) (xs : List Node) → Rising j xs → Rising j (filter test xs)
+rising_filter test j [] r = tt
+rising_filter test j (x ∷ xs) (h, r) = go (test x) (rising_filter test (suc x.number) xs r)
   where
     go : (t : Bool) → Rising (suc x.number) (filter test xs) → Rising j (cond t (x ∷ filter test xs) (filter test xs))
     go true r = (h, r)
@@ -104,7 +104,7 @@ rising_kept b m i = go (radio m i)
   where
     go : (o : Option Radio) → Rising 0 (kept_of b (heard_by m i o) o)
     go None = tt
-    go (Some p) = rising_those (λ (v : Node). not (blocked b p.point v (heard_by m i (Some p)))) 0 (heard_by m i (Some p)) (rising_heard m.reach i p 0 m.nodes)
+    go (Some p) = rising_filter (λ (v : Node). not (blocked b p.point v (heard_by m i (Some p)))) 0 (heard_by m i (Some p)) (rising_heard m.reach i p 0 m.nodes)
 
 count_rising : (j n : ℕ) (xs : List Node) → Rising j xs → ((x : Node) → Has x xs → x.number < n) → length xs ≡ sum (λ k. bit (is_among xs k)) n
 count_rising j n [] r small = sym (sum_zero n)
@@ -135,7 +135,7 @@ module _ (b : Blocks) (m : Meaning) where
       there : is_among (higher i) j ≡ true → (ltb i j && keeps b m i j) ≡ true
       there e =
           let (n, h, f) = some_found (λ (n : Node). not (differ n.number j)) (higher i) e in
-          let (k, t) = those_has (λ (v : Node). ltb i v.number) (kept_neighbours b m i) n h in
+          let (k, t) = filter_has (λ (v : Node). ltb i v.number) (kept_neighbours b m i) n h in
           pair (ap (ltb i) (sym (is_same n.number j f)) ∙ t) (found_some (λ (n : Node). not (differ n.number j)) (kept_neighbours b m i) n k f)
 
       back : (ltb i j && keeps b m i j) ≡ true → is_among (higher i) j ≡ true
@@ -143,7 +143,7 @@ module _ (b : Blocks) (m : Meaning) where
           let (t, k) = both e in
           let (n, h, f) = some_found (λ (n : Node). not (differ n.number j)) (kept_neighbours b m i) k in
           found_some (λ (n : Node). not (differ n.number j)) (higher i) n
-          (has_those (λ (v : Node). ltb i v.number) (kept_neighbours b m i) n h (ap (ltb i) (is_same n.number j f) ∙ t)) f
+          (has_filter (λ (v : Node). ltb i v.number) (kept_neighbours b m i) n h (ap (ltb i) (is_same n.number j f) ∙ t)) f
 
   from_sum : (i : ℕ) (rs : List Radio) → kept_from b m i rs + sum (λ k. length (higher k)) i ≡ sum (λ k. length (higher k)) (i + length rs)
   from_sum i [] = zero-add (sum (λ k. length (higher k)) i) ∙ ap (sum (λ k. length (higher k))) whole
@@ -170,9 +170,9 @@ module _ (b : Blocks) (m : Meaning) where
   module _ (l : Lawful b) (g : Serving m) where
     higher_count : (i : ℕ) → length (higher i) ≡ sum (λ j. bit (ltb i j && keeps b m i j)) (size_of m)
     higher_count i =
-        count_rising 0 (size_of m) (higher i) (rising_those (λ (v : Node). ltb i v.number) 0 (kept_neighbours b m i) (rising_kept b m i))
+        count_rising 0 (size_of m) (higher i) (rising_filter (λ (v : Node). ltb i v.number) 0 (kept_neighbours b m i) (rising_kept b m i))
         (λ x h. on_small m x.number (keeps_to b m l g i x.number
-        (found_some (λ (n : Node). not (differ n.number x.number)) (kept_neighbours b m i) x (those_has (λ (v : Node). ltb i v.number) (kept_neighbours b m i) x h).0 (same_is x.number x.number refl))))
+        (found_some (λ (n : Node). not (differ n.number x.number)) (kept_neighbours b m i) x (filter_has (λ (v : Node). ltb i v.number) (kept_neighbours b m i) x h).0 (same_is x.number x.number refl))))
         ∙ sum_same (λ j. bit (is_among (higher i) j)) (λ j. bit (ltb i j && keeps b m i j)) (size_of m) (λ j h. ap bit (among_higher i j))
 
     pub links_are : links (keeps b m) (size_of m) ≡ kept_links b m

@@ -7,7 +7,7 @@ use Rattle.plane.proofs.General.{Off}
 use Rattle.floor.specs.declared.node.Node.{Node}
 use Rattle.floor.specs.declared.node.Radio.{Radio}
 use Rattle.std.specs.List.{slice_get, find}
-use Rattle.floor.specs.Lists.{differ}
+use Rattle.floor.specs.Numbers.{differ}
 use Rattle.floor.specs.Meaning.{Meaning, Serving, Joined, radio, place_of, serving_at, serving_place, heard_by, known_as, node}
 use Rattle.floor.specs.Planar.{Blocks, Lawful}
 use Rattle.kept.specs.Kept.{kept, kept_of, kept_neighbours}
@@ -38,7 +38,7 @@ module _ (m : Meaning) where
   point_on i p h = go (radio m i) h
     where
       none : {X : Type 0} → None ≡ Some p → X
-      none e = let z : ◌≡◌ {A = ℕ} 0 1 = cc in absurd (omega arith)
+      none e = cc
 
       go : (o : Option Radio) → serving_place o ≡ Some p → serves o ≡ true
       go None e = none e

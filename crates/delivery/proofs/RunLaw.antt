@@ -64,8 +64,8 @@ over_twin u v x =
     ∙ ap₂ ◌||◌ (and_comm (eqb x.1 v) (eqb x.0 u)) (and_comm (eqb x.1 u) (eqb x.0 v))
 
 not_under_way : (e : End) → (e ≡ Delivered) ⊎ (e ≡ Unreachable) → ¬ (e ≡ UnderWay)
-not_under_way e (inl p) q = let z : ◌≡◌ {A = ℕ} 0 1 = cc in omega arith
-not_under_way e (inr p) q = let z : ◌≡◌ {A = ℕ} 0 1 = cc in omega arith
+not_under_way e (inl p) q = cc
+not_under_way e (inr p) q = cc
 
 module _ {b : Blocks} {m : Meaning} {s t : ℕ} (g : Ground b m s t) where
   standing : (n : ℕ) (trail : List Dart) (r : Record) → Stands g n trail r → Standing b m s t n r

@@ -27,10 +27,10 @@ clash {ℓ} : {X : Type ℓ} → true ≡ false → X
 clash e = absurd (subst (λ (b : Bool). cond b (Unit {0}) ⊥) e tt)
 
 not_under : UnderWay ≡ Delivered → ⊥
-not_under e = let z : ◌≡◌ {A = ℕ} 0 1 = cc in omega arith
+not_under e = cc
 
 not_under' : UnderWay ≡ Unreachable → ⊥
-not_under' e = let z : ◌≡◌ {A = ℕ} 0 1 = cc in omega arith
+not_under' e = cc
 
 -- an ended packet stays as it is
 still : (b : Blocks) (m : Meaning) (r : Record) → r.hand ≡ None → send b m r ≡ r
@@ -101,7 +101,7 @@ module _ (every : EveryRun) (b : Blocks) (m : Meaning) (l : Lawful b) (g : Servi
 
   -- so a packet that is held may go
   pub goes : (x : Record) (k : Link) → x.hand ≡ Some k → (x.hand ≡ None) ⊎ ((x.total < 65535) × UnderWayAlong b m x) → may_go (kept_neighbours b m x.holder) x ≡ true
-  goes x k e (inl n) = let z : ◌≡◌ {A = ℕ} 0 1 = cc in absurd (omega arith)
+  goes x k e (inl n) = cc
   goes x k e (inr (h, w)) = ap (may_go_along (kept_neighbours b m x.holder) x) w.in_hand
       ∙ all_three (eqb w.l.from x.holder) (ltb x.total 65535) (is_among (kept_neighbours b m x.holder) w.l.to)
       (let f = w.leaves in grind (arith, nat_tests)) (grind (arith, nat_tests))
@@ -150,16 +150,16 @@ pub every : EveryRun
 every = every_run ground
 
 pub ok_not_err : (d : Record) (e : Refusal) → Ok d ≡ Err e → ⊥
-ok_not_err d e k = let z : ◌≡◌ {A = ℕ} 0 1 = cc in omega arith
+ok_not_err d e k = cc
 
 -- nodes of a map, those in service among them
 serving_point : (o : Option Radio) (p : Point) → serving_place o ≡ Some p → place_of o ≡ Some p
-serving_point None p e = let z : ◌≡◌ {A = ℕ} 0 1 = cc in absurd (omega arith)
+serving_point None p e = cc
 serving_point (Some r) p e = go r.serving e
   where
     go : (t : Bool) → cond t (Some r.point) None ≡ Some p → Some r.point ≡ Some p
     go true k = k
-    go false k = let z : ◌≡◌ {A = ℕ} 0 1 = cc in absurd (omega arith)
+    go false k = cc
 
 pub in_service : (m : Meaning) → Mapped m → Serving m
 in_service m h =
@@ -182,7 +182,7 @@ module _ (b : Blocks) (m : Meaning) (s t n : ℕ) where
     where
       go : (o : Option Record) (x : Bool) → Err (denial why) ≡ opened_if x o → Err (denial why) ≡ run_if b m n x o
       go None x e = let d : denial why ≡ 43 = cc in ap Err d
-      go (Some r) true e = let z : ◌≡◌ {A = ℕ} 0 1 = cc in absurd (omega arith)
+      go (Some r) true e = cc
       go (Some r) false e = let d : denial why ≡ 44 = cc in ap Err d
 
   -- a packet that was opened
@@ -197,10 +197,10 @@ module _ (b : Blocks) (m : Meaning) (s t n : ℕ) where
   opened p e = go (opening b m s t) refl (serving m s) (serving m t) refl refl e
     where
       go : (o : Option Record) → opening b m s t ≡ o → (x y : Bool) → serving m s ≡ x → serving m t ≡ y → Ok p ≡ opened_if (x && y) o → Opened p
-      go None i x y hx hy e = let z : ◌≡◌ {A = ℕ} 0 1 = cc in absurd (omega arith)
+      go None i x y hx hy e = cc
       go (Some r) i true true hx hy e = let d : p ≡ in_hand r = cc in record { r = r; is = i; source_serves = hx; target_serves = hy; packet_is = d }
-      go (Some r) i true false hx hy e = let z : ◌≡◌ {A = ℕ} 0 1 = cc in absurd (omega arith)
-      go (Some r) i false y hx hy e = let z : ◌≡◌ {A = ℕ} 0 1 = cc in absurd (omega arith)
+      go (Some r) i true false hx hy e = cc
+      go (Some r) i false y hx hy e = cc
 
   -- it was opened, and has made so many sends
   pub record Sent (i : ℕ) (p : Packet) : Type 0 where

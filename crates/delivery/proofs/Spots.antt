@@ -6,7 +6,7 @@ use Rattle.plane.specs.Plane.{turn}
 use Rattle.order.specs.declared.Place.{Place}
 use Rattle.order.specs.Places.{nearer}
 use Rattle.order.specs.Nearest as nearest
-use Rattle.floor.specs.Lists.{differ}
+use Rattle.floor.specs.Numbers.{differ}
 use Rattle.floor.specs.Meaning.{Meaning}
 use Rattle.kept.specs.Laws.{strictly_cross}
 use Rattle.kept.proofs.Near.{differ_apart, both, same_some, some_none}

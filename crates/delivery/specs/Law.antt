@@ -1,6 +1,6 @@
 -- THE RUN LAW: what becomes of a packet over an unchanged host.
 use Rattle.std.specs.Prelude.{◌≡◌, ℕ, ◌*◌, ◌<◌, true, ◌⊎◌, Some, None}
-use Rattle.floor.specs.Lists.{iterate}
+use Rattle.floor.specs.Numbers.{iterate}
 use Rattle.floor.specs.Meaning.{Meaning, Serving, Joined}
 pub use Rattle.floor.specs.Meaning.{serving}
 use Rattle.floor.specs.Planar.{Blocks, Lawful}

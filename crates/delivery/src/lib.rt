@@ -3,26 +3,24 @@
 #![tactic(auto)]
 
 ghost use Rattle.std.specs.Prelude.{◌≡◌, Ok};
+ghost use Rattle.face.specs.declared.packet.Packet.TheVariants as variants;
 ghost use Rattle.face.specs.declared.record.Record.{Record};
 ghost use Rattle.delivery.specs.Law.{EveryRun};
 ghost use Rattle.delivery.specs.Run.{gone_on, run_answer, run_told, RunsRightly};
 
-use face::packet::{Packet, Refusal, Unsent};
+use face::packet::{Held, Packet, Refusal, Unsent};
 use face::record::Record;
 use floor::planariser::Planariser;
 use host::sides::Reading;
 use kept::links::KeptGraph;
 
-// One send on, where the packet is held and may go.
-fn go_on<R: Reading, P: Planariser>(packet: Packet, graph: KeptGraph<'_, R, P>) -> Packet
-    ensures { result ≡ gone_on (P.Planariser.blocking graph.entry.planariser.now) (R.Reading.meaning graph.entry.host.now) packet }
+// One send on, where the packet may go.
+fn go_on<R: Reading, P: Planariser>(held: Held, graph: KeptGraph<'_, R, P>) -> Packet
+    ensures { result ≡ gone_on (P.Planariser.blocking graph.entry.planariser.now) (R.Reading.meaning graph.entry.host.now) (variants.Held held) }
 {
-    match packet {
-        Packet::Held(held) => match held.hop(graph) {
-            Ok(next) => next,
-            Err(Unsent { why: _, held }) => Packet::Held(held),
-        },
-        Packet::Ended(ended) => Packet::Ended(ended),
+    match held.hop(graph) {
+        Ok(next) => next,
+        Err(Unsent { why: _, held }) => Packet::Held(held),
     }
 }
 
@@ -40,7 +38,7 @@ pub fn deliver<R: Reading, P: Planariser>(
     let mut packet = Packet::open(graph, source, target)?;
     for _sent in 0..budget {
         packet = match packet {
-            Packet::Held(held) => go_on(Packet::Held(held), graph),
+            Packet::Held(held) => go_on(held, graph),
             Packet::Ended(ended) => return Ok(ended.file()),
         };
     }

@@ -24,7 +24,7 @@ mod tests {
     use std::alloc::Global;
     use std::process::Abort;
     use std::test::Fail;
-    use worked::{Floor, NoHost, TAIL};
+    use worked::{Floor, KITE, NoHost};
 
     // Whether hops go to the nodes of a way.
     fn follow(hops: &[HopRecord], letters: &str) -> bool {
@@ -76,10 +76,7 @@ mod tests {
         planariser: P,
         thinned: Thinned,
     ) {
-        let graph = KeptGraph {
-            host: &host,
-            planariser: &planariser,
-        };
+        let graph = KeptGraph::new(&host, &planariser);
         assert_eq!(rt; graph.kept_links(), thinned.kept);
         let mut network = Network::new(host, planariser);
         for way in thinned.ways {
@@ -108,6 +105,7 @@ mod tests {
     }
 
     // A packet of a record, unless it has ended, is forwarded over one graph and received over another.
+    // Tests and programs stand alone, each with such a function; no call of the library needs two graphs.
     fn across<R: Reading, S: Reading, P: Planariser>(
         before: KeptGraph<'_, R, P>,
         after: KeptGraph<'_, S, P>,
@@ -150,17 +148,11 @@ mod tests {
     #[test]
     fn agrees_where_a_node_is_gone(rt: HostRuntime) -> Result<(), Fail> {
         for stale in STALE {
-            let whole: ScanHost = TAIL.host(rt.alloc())?;
-            let mut gone: TableHost = TAIL.host(rt.alloc())?;
+            let whole: ScanHost = KITE.host(rt.alloc())?;
+            let mut gone: TableHost = KITE.host(rt.alloc())?;
             gone.withdraw(stale.gone);
-            let whole = KeptGraph {
-                host: &whole,
-                planariser: &Gabriel,
-            };
-            let gone = KeptGraph {
-                host: &gone,
-                planariser: &Gabriel,
-            };
+            let whole = KeptGraph::new(&whole, &Gabriel);
+            let gone = KeptGraph::new(&gone, &Gabriel);
             check_stale(&rt, whole, gone, stale)?;
         }
         Ok(())

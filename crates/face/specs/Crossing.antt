@@ -3,7 +3,7 @@ use Rattle.std.specs.Prelude.{Bool, cond, ◌&&◌, ℤ, pos, ◌*ℤ◌, Some, 
 use Rattle.plane.specs.Plane.{turn}
 use Rattle.order.specs.declared.Place.{Place}
 use Rattle.floor.specs.declared.node.Node.{Node}
-use Rattle.floor.specs.Lists.{differ}
+use Rattle.floor.specs.Numbers.{differ}
 
 -- one is positive and the other negative
 abbrev pub opposite : ℤ → ℤ → Bool

@@ -20,7 +20,7 @@ fn parted(a: Point, b: Point, p: Point, q: Point) -> bool
     opposite(turn(a, b, p), turn(a, b, q))
 }
 
-// No two of the nodes are one.
+// No two of the nodes are one: six inequalities say it most plainly.
 fn four_nodes(s: Node, t: Node, u: Node, v: Node) -> bool
     ensures { result ≡ four_nodes s t u v }
 {

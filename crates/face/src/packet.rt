@@ -12,7 +12,7 @@ use kept::around::Surroundings;
 use kept::links::KeptGraph;
 use order::{Place, Sense, Start};
 
-// A packet's one record, and whether it is spent: let go only then.
+// A packet's one record, and whether it is spent. The flag stays: a packet may be let go only when it is spent, and the check asks that.
 struct Token {
     carried: Record,
     spent: bool,
@@ -162,7 +162,7 @@ impl Record {
 }
 
 impl Packet {
-    /// A new packet between two nodes of a host.
+    /// A new packet between two nodes of a host, each named at the call: a pair would be made only to be taken apart.
     pub fn open<R: Reading, P: Planariser>(
         graph: KeptGraph<'_, R, P>,
         source: u8,
@@ -177,13 +177,7 @@ impl Packet {
             return Err(Refusal::OutOfService);
         }
         let view = graph.view(source);
-        Ok(Packet::take_up(opened(
-            &view,
-            Node {
-                number: target,
-                point: to.point,
-            },
-        )))
+        Ok(Packet::take_up(opened(&view, to.node(target))))
     }
 
     /// The packet that carries a record: held where a link is in hand, ended where none is.

@@ -11,7 +11,7 @@ pub struct Link {
     pub to: u8,
 }
 
-/// The crossing nearest the target that a round has met.
+/// The crossing nearest the target that a round has met; marked once its link was walked both ways, which the rules keep beside it.
 #[derive(Clone, Copy, PartialEq, Eq, Debug)]
 pub struct Best {
     pub link: Link,
@@ -93,7 +93,7 @@ pub struct Course {
     pub walk: u16,
 }
 
-/// All that a packet carries.
+/// All that a packet carries: these fields and no other, so the end stands beside the link in hand, which an end takes away.
 #[derive(Clone, Copy, PartialEq, Eq, Debug)]
 pub struct Record {
     pub source: Node,

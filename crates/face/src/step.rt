@@ -32,12 +32,12 @@ fn turn_from<V: Surroundings>(around: &V, sense: Sense, from: u8) -> Option<(Nod
     Some((came, next))
 }
 
-// The best crossing, and the node that a new round's first link there goes to, none being left to walk.
-fn reopening<V: Surroundings>(phase: Phase, best: Option<Best>, around: &V) -> Option<(Best, Node)>
-    ensures { on_with (reopened (V.here around.now) (V.near around.now) phase) best ≡ on_with (λ found. opens (V.here around.now) (V.near around.now) found.0 found.1) result }
+// The best crossing of a course, and the node that a new round's first link there goes to, none being left to walk.
+fn reopening<V: Surroundings>(course: Course, around: &V) -> Option<(Best, Node)>
+    ensures { on_with (reopened (V.here around.now) (V.near around.now) course.phase) course.best ≡ on_with (λ found. opens (V.here around.now) (V.near around.now) found.0 found.1) result }
 {
-    let best = best?;
-    let next = match phase {
+    let best = course.best?;
+    let next = match course.phase {
         Phase::Round => return None,
         Phase::Ahead => turn_from(around, Sense::Clockwise, best.link.to)?.1,
         Phase::Back => around.known(best.link.from)?,
@@ -67,11 +67,11 @@ impl Record {
     }
 
     // A new round opens at the best crossing, or the packet has gone astray.
-    fn reopen<V: Surroundings>(&mut self, phase: Phase, best: Option<Best>, around: &V)
-        ensures { self.new ≡ under self.old (V.here around.now).number (on_with (reopened (V.here around.now) (V.near around.now) phase) best) }
+    fn reopen<V: Surroundings>(&mut self, course: Course, around: &V)
+        ensures { self.new ≡ under self.old (V.here around.now).number (on_with (reopened (V.here around.now) (V.near around.now) course.phase) course.best) }
     {
         let at = around.node().number;
-        let Some((best, next)) = reopening(phase, best, around) else {
+        let Some((best, next)) = reopening(course, around) else {
             return self.finish(at, End::Unreachable);
         };
         self.go_on(at, next.number);
@@ -83,7 +83,7 @@ impl Record {
         ensures { self.new ≡ under self.old (V.here around.now).number (walked (V.here around.now) (V.near around.now) course next) }
     {
         if course.walk == 0 {
-            return self.reopen(course.phase, course.best, around);
+            return self.reopen(course, around);
         }
         self.course = course;
         self.go_on(around.node().number, next);
@@ -174,7 +174,7 @@ impl Record {
                 self.go_on(at.number, next);
             }
             (Phase::Ahead | Phase::Back, Arrival::Done { .. }) => {
-                self.reopen(self.course.phase, self.course.best, around);
+                self.reopen(self.course, around);
             }
         }
     }

@@ -11,7 +11,7 @@ use Rattle.plane.proofs.Vectors.{position}
 use Rattle.plane.proofs.Facts.{turn_cycle, turn_swap}
 use Rattle.floor.specs.declared.map.PlaceRefusal.TheVariants.{Full, OutOfRange, Occupied, OnALine}
 use Rattle.std.specs.List.{slice_get, list_any}
-use Rattle.floor.proofs.Lists.{no_place, none_is, nth_push}
+use Rattle.floor.proofs.Lists.{no_place, none_is, get_push}
 use Rattle.floor.specs.Position.{GeneralPosition}
 use Rattle.floor.specs.declared.map.Map.{Map}
 use Rattle.floor.specs.Map.{points_of}
@@ -57,9 +57,9 @@ one_more : (ps : List Point) (p : Point) → Charted ps → leb 64 (length ps) �
 one_more ps p charted room range free off = record {
   few = omega (arith, length_push ps p, leb-false 64 (length ps) room);
   general = record {
-    in_range = λ i q e. ⊎_elim (λ old. old_one.in_range i q old) (λ new. subst InRange (sym new.1) new_in_range) (nth_push ps p i q e);
-    apart = λ i j q r ne s t. two i j q r ne (nth_push ps p i q s) (nth_push ps p j r t);
-    bent = λ i j k q r s ij jk ik a b c. three i j k q r s ij jk ik (nth_push ps p i q a) (nth_push ps p j r b) (nth_push ps p k s c);
+    in_range = λ i q e. ⊎_elim (λ old. old_one.in_range i q old) (λ new. subst InRange (sym new.1) new_in_range) (get_push ps p i q e);
+    apart = λ i j q r ne s t. two i j q r ne (get_push ps p i q s) (get_push ps p j r t);
+    bent = λ i j k q r s ij jk ik a b c. three i j k q r s ij jk ik (get_push ps p i q a) (get_push ps p j r b) (get_push ps p k s c);
   };
 }
   where
@@ -92,10 +92,10 @@ one_more ps p charted room range free off = record {
 
 -- an answer with a number: nothing was against it
 nothing_against : (a b c d : Bool) (n m : ℕ) → Ok n ≡ cond a (Err Full) (cond (not b) (Err OutOfRange) (cond c (Err Occupied) (cond d (Err OnALine) (Ok m)))) → (a ≡ false) × (b ≡ true) × (c ≡ false) × (d ≡ false)
-nothing_against true b c d n m e = let z : ◌≡◌ {A = ℕ} 0 1 = cc in absurd (omega arith)
-nothing_against false false c d n m e = let z : ◌≡◌ {A = ℕ} 0 1 = cc in absurd (omega arith)
-nothing_against false true true d n m e = let z : ◌≡◌ {A = ℕ} 0 1 = cc in absurd (omega arith)
-nothing_against false true false true n m e = let z : ◌≡◌ {A = ℕ} 0 1 = cc in absurd (omega arith)
+nothing_against true b c d n m e = cc
+nothing_against false false c d n m e = cc
+nothing_against false true true d n m e = cc
+nothing_against false true false true n m e = cc
 nothing_against false true false false n m e = (refl, refl, refl, refl)
 
 -- ps as they were asked about, and qs with p added

@@ -1,4 +1,4 @@
-pub mod Lists
+pub mod Numbers
 pub mod Position
 pub mod Charted
 pub mod Map

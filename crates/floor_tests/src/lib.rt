@@ -16,7 +16,7 @@ mod tests {
         map.place(Point { x, y }).map_err(u8::from)
     }
 
-    // Points in the order of placing, with what each is answered.
+    // Points in the order of placing, with what each is answered: the number of a refusal is what is tested.
     const PLACINGS: [(u16, u16, Result<u8, u8>); 10] = [
         (0, 0, Ok(0)),
         (1, 1, Ok(1)),

@@ -8,7 +8,7 @@ use crate::row::Row;
 use std::marker::Model;
 
 /// The most characters that a line may have.
-const LONGEST: usize = 80;
+pub const LONGEST: usize = 80;
 
 /// The digit of a number.
 fn to_digit(n: u8) -> u8

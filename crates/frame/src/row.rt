@@ -3,13 +3,30 @@ ghost use Rattle.std.specs.Prelude.{◌≡◌, ◌<◌, ◌≤◌, [], ◌∷◌
 ghost use Rattle.frame.specs.Frames.{body, by_kind, check, checked, frame_in};
 
 use crate::Frame;
+use crate::digits::LONGEST;
 use crate::fault::FrameFault;
 use std::marker::Model;
 
 /// The most bytes that a line can spell.
-const MOST_BYTES: usize = 40;
+const MOST_BYTES: usize = LONGEST / 2;
+
+// The first byte of each kind of frame.
+const MAP: u8 = 0x4d;
+
+const NODE: u8 = 0x4e;
+
+const PACKET: u8 = 0x50;
+
+const WITHDRAW: u8 = 0x57;
+
+const RETURN: u8 = 0x52;
+
+const HOP: u8 = 0x48;
+
+const END: u8 = 0x44;
 
 /// A row of bytes, few enough for a line, in memory of a fixed size.
+// By hand, as are the digits: the library stands on std alone, so that no further crate is trusted, and on no heap.
 #[derive(Drop)]
 pub struct Row {
     bytes: [u8; MOST_BYTES],
@@ -68,30 +85,30 @@ fn take_apart(row: &[u8]) -> Result<Frame, FrameFault>
     ensures { result ≡ by_kind row.now }
 {
     match row {
-        [0x4d, rh, rl, planariser, host, _check] => {
+        [MAP, rh, rl, planariser, host, _check] => {
             Ok(Frame::Map {
                 reach: u16::from_be_bytes([*rh, *rl]),
                 planariser: *planariser,
                 host: *host,
             })
         }
-        [0x4e, xh, xl, yh, yl, _check] => {
+        [NODE, xh, xl, yh, yl, _check] => {
             Ok(Frame::Node {
                 x: u16::from_be_bytes([*xh, *xl]),
                 y: u16::from_be_bytes([*yh, *yl]),
             })
         }
-        [0x50, source, target, _check] => Ok(Frame::Packet {
+        [PACKET, source, target, _check] => Ok(Frame::Packet {
             source: *source,
             target: *target,
         }),
-        [0x57, node, _check] => Ok(Frame::Withdraw { node: *node }),
-        [0x52, node, _check] => Ok(Frame::Return { node: *node }),
-        [0x48, sender, receiver, _check] => Ok(Frame::Hop {
+        [WITHDRAW, node, _check] => Ok(Frame::Withdraw { node: *node }),
+        [RETURN, node, _check] => Ok(Frame::Return { node: *node }),
+        [HOP, sender, receiver, _check] => Ok(Frame::Hop {
             sender: *sender,
             receiver: *receiver,
         }),
-        [0x44, source, target, end, th, tl, _check] => {
+        [END, source, target, end, th, tl, _check] => {
             Ok(Frame::End {
                 source: *source,
                 target: *target,
@@ -99,7 +116,7 @@ fn take_apart(row: &[u8]) -> Result<Frame, FrameFault>
                 total: u16::from_be_bytes([*th, *tl]),
             })
         }
-        [0x4d | 0x4e | 0x50 | 0x57 | 0x52 | 0x48 | 0x44, ..] => Err(FrameFault::WrongLength),
+        [MAP | NODE | PACKET | WITHDRAW | RETURN | HOP | END, ..] => Err(FrameFault::WrongLength),
         _ => Err(FrameFault::UnknownKind),
     }
 }
@@ -142,17 +159,17 @@ pub fn row_of(frame: Frame) -> Row
             host,
         } => {
             let [rh, rl] = reach.to_be_bytes();
-            with_check(&[0x4d, rh, rl, planariser, host])
+            with_check(&[MAP, rh, rl, planariser, host])
         }
         Frame::Node { x, y } => {
             let [xh, xl] = x.to_be_bytes();
             let [yh, yl] = y.to_be_bytes();
-            with_check(&[0x4e, xh, xl, yh, yl])
+            with_check(&[NODE, xh, xl, yh, yl])
         }
-        Frame::Packet { source, target } => with_check(&[0x50, source, target]),
-        Frame::Withdraw { node } => with_check(&[0x57, node]),
-        Frame::Return { node } => with_check(&[0x52, node]),
-        Frame::Hop { sender, receiver } => with_check(&[0x48, sender, receiver]),
+        Frame::Packet { source, target } => with_check(&[PACKET, source, target]),
+        Frame::Withdraw { node } => with_check(&[WITHDRAW, node]),
+        Frame::Return { node } => with_check(&[RETURN, node]),
+        Frame::Hop { sender, receiver } => with_check(&[HOP, sender, receiver]),
         Frame::End {
             source,
             target,
@@ -160,7 +177,7 @@ pub fn row_of(frame: Frame) -> Row
             total,
         } => {
             let [th, tl] = total.to_be_bytes();
-            with_check(&[0x44, source, target, end, th, tl])
+            with_check(&[END, source, target, end, th, tl])
         }
     }
 }

@@ -4,7 +4,7 @@ use Rattle.std.proofs.lemmas.Bool.Decides.{nat_tests}
 use Rattle.floor.specs.declared.node.Node.{Node}
 use Rattle.floor.specs.declared.node.Radio.{Radio}
 use Rattle.std.specs.List.{find}
-use Rattle.floor.specs.Lists.{differ}
+use Rattle.floor.specs.Numbers.{differ}
 use Rattle.floor.specs.Meaning.{Meaning, radio, hear, heard, heard_by, neighbours}
 use Rattle.host.specs.Questions.{next_neighbour, numbered_from}
 

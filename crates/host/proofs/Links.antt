@@ -9,7 +9,7 @@ use Rattle.floor.specs.declared.node.Node.{Node}
 use Rattle.floor.specs.declared.node.Radio.{Radio}
 use Rattle.floor.specs.DiscInLune.{squared_turned}
 use Rattle.std.specs.List.{slice_get, find}
-use Rattle.floor.specs.Lists.{differ}
+use Rattle.floor.specs.Numbers.{differ}
 use Rattle.floor.specs.Meaning.{Meaning, radio, hear, heard, heard_by, neighbours, is_among, known_as, node}
 use Rattle.host.specs.Questions.{next_neighbour, marked, with_mark}
 
@@ -135,16 +135,16 @@ pub next_node : (m : Meaning) (i j k end : ℕ) → (j ≤ k) × (k < end) × (i
 next_node m i j k end (le, _, hit, none) = node_is m i j k (radio m k) refl le (sym (among_is m i k) ∙ hit) (λ n low high. sym (among_is m i n) ∙ none n low high)
 
 -- a switching alters the links of its node alone
-nth_set_other : {A : Type 0} (xs : List A) (i k : ℕ) (x : A) → k ≢ i → slice_get (set xs i x) k ≡ slice_get xs k
-nth_set_other [] i k x ne = refl
-nth_set_other (y ∷ ys) zero zero x ne = absurd (ne refl)
-nth_set_other (y ∷ ys) zero (suc k) x ne = refl
-nth_set_other (y ∷ ys) (suc i) zero x ne = refl
-nth_set_other (y ∷ ys) (suc i) (suc k) x ne = nth_set_other ys i k x (λ e. ne (ap suc e))
+get_set_other : {A : Type 0} (xs : List A) (i k : ℕ) (x : A) → k ≢ i → slice_get (set xs i x) k ≡ slice_get xs k
+get_set_other [] i k x ne = refl
+get_set_other (y ∷ ys) zero zero x ne = absurd (ne refl)
+get_set_other (y ∷ ys) zero (suc k) x ne = refl
+get_set_other (y ∷ ys) (suc i) zero x ne = refl
+get_set_other (y ∷ ys) (suc i) (suc k) x ne = get_set_other ys i k x (λ e. ne (ap suc e))
 
 radio_marked : (m : Meaning) (i k : ℕ) (mark : Bool) (o : Option Radio) → k ≢ i → radio (marked m i mark o) k ≡ radio m k
 radio_marked m i k mark None ne = refl
-radio_marked m i k mark (Some p) ne = nth_set_other m.nodes i k (record { point = p.point; serving = mark }) ne
+radio_marked m i k mark (Some p) ne = get_set_other m.nodes i k (record { point = p.point; serving = mark }) ne
 
 reach_marked : (m : Meaning) (i : ℕ) (mark : Bool) (o : Option Radio) → (marked m i mark o).reach ≡ m.reach
 reach_marked m i mark None = refl

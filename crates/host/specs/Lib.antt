@@ -5,3 +5,4 @@ pub mod Making
 pub mod Laws
 pub mod Radios
 pub mod Remaining
+pub mod Kinds

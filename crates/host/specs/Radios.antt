@@ -4,6 +4,7 @@ use Rattle.std.proofs.Common.{sym, ap, ◌∙◌, arith}
 use Rattle.plane.specs.declared.Point.{Point}
 use Rattle.floor.specs.declared.node.Radio.{Radio}
 use Rattle.std.specs.List.{slice_get}
+use Rattle.std.proofs.lemmas.Option.{slice_get_past}
 use Rattle.floor.specs.Charted.{Charted}
 use Rattle.floor.specs.Map.{points_of}
 use Rattle.floor.proofs.Charting.{charted}
@@ -16,11 +17,6 @@ use Rattle.host.specs.Storeys.{radios, meaning_of}
 abbrev pub meant : ℕ → List Point → List Bool → Meaning
 meant reach ps marks = record { reach = reach; nodes = radios ps marks }
 
-nth_past : {A : Type 0} (xs : List A) (i : ℕ) → length xs ≤ i → slice_get xs i ≡ None
-nth_past [] i h = refl
-nth_past (x ∷ xs) zero h = absurd (omega arith)
-nth_past (x ∷ xs) (suc i) h = nth_past xs i (omega arith)
-
 pub length_radios : (ps : List Point) (marks : List Bool) → length (radios ps marks) ≡ length ps
 length_radios [] marks = refl
 length_radios (p ∷ ps) [] = ap suc (length_radios ps [])
@@ -30,22 +26,22 @@ abbrev pub served : Bool → Option Point → Option Radio
 served mark None = None
 served mark (Some p) = Some (record { point = p; serving = mark })
 
-pub nth_radios : (ps : List Point) (marks : List Bool) (i : ℕ) → slice_get (radios ps marks) i ≡ served (slice_index_or marks i false) (slice_get ps i)
-nth_radios [] marks i = refl
-nth_radios (p ∷ ps) [] zero = refl
-nth_radios (p ∷ ps) [] (suc i) = nth_radios ps [] i
-nth_radios (p ∷ ps) (b ∷ marks) zero = refl
-nth_radios (p ∷ ps) (b ∷ marks) (suc i) = nth_radios ps marks i
+pub get_radios : (ps : List Point) (marks : List Bool) (i : ℕ) → slice_get (radios ps marks) i ≡ served (slice_index_or marks i false) (slice_get ps i)
+get_radios [] marks i = refl
+get_radios (p ∷ ps) [] zero = refl
+get_radios (p ∷ ps) [] (suc i) = get_radios ps [] i
+get_radios (p ∷ ps) (b ∷ marks) zero = refl
+get_radios (p ∷ ps) (b ∷ marks) (suc i) = get_radios ps marks i
 
 place_served : (mark : Bool) (o : Option Point) → place_of (served mark o) ≡ o
 place_served mark None = refl
 place_served mark (Some p) = refl
 
 pub place_radios : (ps : List Point) (marks : List Bool) (i : ℕ) → place_of (slice_get (radios ps marks) i) ≡ slice_get ps i
-place_radios ps marks i = ap place_of (nth_radios ps marks i) ∙ place_served (slice_index_or marks i false) (slice_get ps i)
+place_radios ps marks i = ap place_of (get_radios ps marks i) ∙ place_served (slice_index_or marks i false) (slice_get ps i)
 
 pub radio_past : (ps : List Point) (marks : List Bool) (i : ℕ) → length ps ≤ i → slice_get (radios ps marks) i ≡ None
-radio_past ps marks i past = nth_radios ps marks i ∙ ap (served (slice_index_or marks i false)) (nth_past ps i past)
+radio_past ps marks i past = get_radios ps marks i ∙ ap (served (slice_index_or marks i false)) (slice_get_past ps i past)
 
 -- the nodes of a map form a map, whatever their marks
 mapped_radios : (reach : ℕ) (ps : List Point) (marks : List Bool) → Charted ps → Mapped (meant reach ps marks)
@@ -70,10 +66,10 @@ radios_all [] n h = refl
 radios_all (p ∷ ps) zero h = absurd (omega arith)
 radios_all (p ∷ ps) (suc n) h = ap (λ (rest : List Radio). record { point = p; serving = true } ∷ rest) (radios_all ps n (omega arith))
 
-nth_in : {A : Type 0} (xs : List A) (i : ℕ) → i < length xs → (x : A) × (slice_get xs i ≡ Some x)
-nth_in [] i h = absurd (omega arith)
-nth_in (x ∷ xs) zero h = (x, refl)
-nth_in (x ∷ xs) (suc i) h = nth_in xs i (omega arith)
+get_in : {A : Type 0} (xs : List A) (i : ℕ) → i < length xs → (x : A) × (slice_get xs i ≡ Some x)
+get_in [] i h = absurd (omega arith)
+get_in (x ∷ xs) zero h = (x, refl)
+get_in (x ∷ xs) (suc i) h = get_in xs i (omega arith)
 
 radios_set : (ps : List Point) (marks : List Bool) (i : ℕ) (mark : Bool) (p : Point) → slice_get ps i ≡ Some p → i < length marks → radios ps (slice_set marks i mark) ≡ slice_set (radios ps marks) i (record { point = p; serving = mark })
 radios_set [] marks i mark p e h = cc
@@ -87,8 +83,8 @@ radios_set (q ∷ ps) (b ∷ marks) (suc i) mark p e h =
 pub mark_set : (reach : ℕ) (ps : List Point) (marks : List Bool) (i : ℕ) (mark : Bool) → i < length ps → i < length marks → meant reach ps (slice_set marks i mark) ≡ with_mark (meant reach ps marks) i mark
 mark_set reach ps marks i mark here room =
     let m = meant reach ps marks in
-    let found = nth_in ps i here in
-    let at : radio m i ≡ Some (record { point = found.0; serving = slice_index_or marks i false }) = nth_radios ps marks i ∙ ap (served (slice_index_or marks i false)) found.1 in
+    let found = get_in ps i here in
+    let at : radio m i ≡ Some (record { point = found.0; serving = slice_index_or marks i false }) = get_radios ps marks i ∙ ap (served (slice_index_or marks i false)) found.1 in
     ap (λ (ns : List Radio). record { reach = reach; nodes = ns }) (radios_set ps marks i mark found.0 found.1 room)
     ∙ sym (ap (marked m i mark) at)
 
@@ -97,26 +93,21 @@ mark_past reach ps marks i mark past =
     let m = meant reach ps marks in
     sym (ap (marked m i mark) (radio_past ps marks i past))
 
-pub nth_below : {A : Type 0} (xs : List A) (i : ℕ) (x : A) → slice_get xs i ≡ Some x → i < length xs
-nth_below [] i x e = cc
-nth_below (y ∷ ys) zero x e = omega arith
-nth_below (y ∷ ys) (suc i) x e = let h = nth_below ys i x e in omega (arith, h)
-
 -- switched and switched back
 set_back : {A : Type 0} (xs : List A) (i : ℕ) (x y : A) → slice_get xs i ≡ Some y → slice_set (slice_set xs i x) i y ≡ xs
 set_back [] i x y e = refl
 set_back (z ∷ zs) zero x y e = cc
 set_back (z ∷ zs) (suc i) x y e = ap (λ rest. z ∷ rest) (set_back zs i x y e)
 
-nth_set : {A : Type 0} (xs : List A) (i : ℕ) (x y : A) → slice_get xs i ≡ Some y → slice_get (slice_set xs i x) i ≡ Some x
-nth_set [] i x y e = cc
-nth_set (z ∷ zs) zero x y e = refl
-nth_set (z ∷ zs) (suc i) x y e = nth_set zs i x y e
+get_once_set : {A : Type 0} (xs : List A) (i : ℕ) (x y : A) → slice_get xs i ≡ Some y → slice_get (slice_set xs i x) i ≡ Some x
+get_once_set [] i x y e = cc
+get_once_set (z ∷ zs) zero x y e = refl
+get_once_set (z ∷ zs) (suc i) x y e = get_once_set zs i x y e
 
 pub switched_back : SwitchedBack
 switched_back m i mark p e =
     let q : Radio = record { point = p.point; serving = mark } in
     let once : Meaning = record { reach = m.reach; nodes = slice_set m.nodes i q } in
     ap (λ (n : Meaning). with_mark n i p.serving) (ap (marked m i mark) e)
-    ∙ ap (marked once i p.serving) (nth_set m.nodes i q p e)
+    ∙ ap (marked once i p.serving) (get_once_set m.nodes i q p e)
     ∙ ap (λ (ns : List Radio). record { reach = m.reach; nodes = ns }) (set_back m.nodes i q p e)

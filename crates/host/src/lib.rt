@@ -2,6 +2,7 @@
 
 #![tactic(auto)]
 
+pub mod kind;
 pub mod making;
 pub mod neighbours;
 mod rows;

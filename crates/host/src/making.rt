@@ -2,6 +2,7 @@
 ghost use Rattle.std.specs.Prelude.{◌≡◌};
 ghost use Rattle.host.specs.Making.{number_of, Made};
 
+use crate::kind::HostKind;
 use crate::sides::Switching;
 use floor::map::Map;
 
@@ -21,6 +22,9 @@ pub struct Unmade {
 
 /// A switching host that is made of a map.
 pub trait Making: Switching + Sized {
+    /// Which host it is.
+    const KIND: HostKind;
+
     /// A host with that reach of a map's nodes, all in service.
     fn make(map: Map, reach: u16) -> Result<Self, Unmade>
         ensures { Made Self.Reading.meaning map reach result };

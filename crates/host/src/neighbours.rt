@@ -14,16 +14,20 @@ pub struct Neighbours<'a, R: Reading> {
 }
 
 impl<'a, R: Reading> Neighbours<'a, R> {
+    ghost use Rattle.floor.specs.Meaning.{neighbours};
+    ghost use Rattle.host.specs.Questions.{numbered_from};
+    ghost use Rattle.host.specs.Remaining.{remaining_of};
+
     /// All neighbours of node `i`.
     pub fn of(host: &'a R, i: u8) -> Neighbours<'a, R>
-        ensures { (result.host.now ≡ host.now) × ((result.of ≡ i) × (result.from ≡ 0)) }
+        ensures { remaining_of R.Reading.meaning result ≡ neighbours (R.Reading.meaning host.now) i }
     {
         Neighbours::numbered_from(host, i, 0)
     }
 
     /// The neighbours of node `i` whose numbers are at least `j`.
     pub fn numbered_from(host: &'a R, i: u8, j: u8) -> Neighbours<'a, R>
-        ensures { (result.host.now ≡ host.now) × ((result.of ≡ i) × (result.from ≡ j)) }
+        ensures { remaining_of R.Reading.meaning result ≡ numbered_from j (neighbours (R.Reading.meaning host.now) i) }
     {
         Neighbours {
             host,

@@ -2,6 +2,7 @@
 ghost use Rattle.host.specs.Storeys.{meaning_of};
 ghost use Rattle.host.specs.Radios.{mapped_storey};
 
+use crate::kind::HostKind;
 use crate::making::{Making, Unmade};
 use crate::sides::{Reading, Switching};
 use crate::storey::Storey;
@@ -40,6 +41,8 @@ impl Switching for ScanHost {
 }
 
 impl Making for ScanHost {
+    const KIND: HostKind = HostKind::Scan;
+
     fn make(map: Map, reach: u16) -> Result<ScanHost, Unmade> {
         let storey = Storey::make(map, reach)?;
         Ok(ScanHost { storey })

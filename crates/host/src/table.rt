@@ -3,6 +3,7 @@ ghost use Rattle.host.specs.Rows.{RowsRight};
 ghost use Rattle.host.specs.Storeys.{meaning_of};
 ghost use Rattle.host.specs.Radios.{mapped_storey};
 
+use crate::kind::HostKind;
 use crate::making::{Making, Unmade};
 use crate::rows::Rows;
 use crate::sides::{Reading, Switching};
@@ -44,6 +45,8 @@ impl Switching for TableHost {
 }
 
 impl Making for TableHost {
+    const KIND: HostKind = HostKind::Table;
+
     fn make(map: Map, reach: u16) -> Result<TableHost, Unmade> {
         let storey = Storey::make(map, reach)?;
         let rows = Rows::of(&storey);

@@ -5,11 +5,11 @@ use host::scan::ScanHost;
 use host::sides::{Reading, Switching};
 use host::table::TableHost;
 use std::test::Fail;
-use worked::TAIL;
+use worked::KITE;
 
 #[test]
 fn hears_within_reach(rt: HostRuntime) -> Result<(), Fail> {
-    let scan: ScanHost = TAIL.host(rt.alloc())?;
+    let scan: ScanHost = KITE.host(rt.alloc())?;
     assert_eq!(rt; scan.count(), 4);
     assert!(rt; has_neighbours(&scan, 0, &[1, 2]));
     assert!(rt; has_neighbours(&scan, 1, &[0, 2]));
@@ -21,7 +21,7 @@ fn hears_within_reach(rt: HostRuntime) -> Result<(), Fail> {
 
 #[test]
 fn mends_the_other_end(rt: HostRuntime) -> Result<(), Fail> {
-    let mut table: TableHost = TAIL.host(rt.alloc())?;
+    let mut table: TableHost = KITE.host(rt.alloc())?;
     table.withdraw(2);
     assert!(rt; has_neighbours(&table, 0, &[1]));
     assert!(rt; has_neighbours(&table, 2, &[]));
@@ -34,9 +34,9 @@ fn mends_the_other_end(rt: HostRuntime) -> Result<(), Fail> {
 
 #[test]
 fn refuses_a_reach(rt: HostRuntime) -> Result<(), Fail> {
-    assert!(rt; ScanHost::make(TAIL.map(rt.alloc())?, 46_340).is_ok());
-    assert!(rt; TableHost::make(TAIL.map(rt.alloc())?, 1).is_ok());
-    let Err(unmade) = ScanHost::make(TAIL.map(rt.alloc())?, 46_341) else {
+    assert!(rt; ScanHost::make(KITE.map(rt.alloc())?, 46_340).is_ok());
+    assert!(rt; TableHost::make(KITE.map(rt.alloc())?, 1).is_ok());
+    let Err(unmade) = ScanHost::make(KITE.map(rt.alloc())?, 46_341) else {
         return Err(Fail::new("46,341 was taken"));
     };
     assert_eq!(rt; u8::from(unmade.why), 31);

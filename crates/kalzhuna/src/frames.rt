@@ -1,20 +1,20 @@
 //! A floor and a packet go through lines of hexadecimal digits before the packet is sent.
-use crate::hosts::HostKind;
-use crate::packets::sent;
+use crate::sends::sends_of;
 use face::packet::Packet;
 use face::record::Record;
 use floor::map::Map;
 use floor::planariser::Planariser;
 use floor::planariser::rule::Rule;
 use frame::{Frame, read_line, write_line};
+use host::kind::HostKind;
 use host::making::Making;
 use host::scan::ScanHost;
 use host::sides::Reading;
 use host::table::TableHost;
 use kept::links::KeptGraph;
 use plane::Point;
-use std::{io, iter};
-use worked::{Floor, TAIL};
+use std::io;
+use worked::{Floor, KITE};
 
 // Lines that say no frame.
 const BAD_LINES: [&str; 9] = [
@@ -106,8 +106,7 @@ fn tell_hops<R: Reading, P: Planariser>(
     record: Record,
 ) -> io::Result<()> {
     let mut last = record;
-    let sends = iter::successors(sent(graph, record), |record| sent(graph, *record));
-    for next in sends.take(usize::from(u16::MAX)) {
+    for next in sends_of(graph, record) {
         let hop = Frame::Hop {
             sender: last.holder,
             receiver: next.holder,
@@ -133,10 +132,7 @@ fn tell_over<H: Making + Drop>(rt: &impl Print, job: Job) -> io::Result<()> {
     let Some(rule) = job.rule else {
         return println!(rt; "there is no such planariser");
     };
-    let graph = KeptGraph {
-        host: &host,
-        planariser: &rule,
-    };
+    let graph = KeptGraph::new(&host, &rule);
     match Packet::open(graph, job.source, job.target) {
         Ok(packet) => tell_hops(rt, graph, packet.put_by()),
         Err(_) => println!(rt; "no packet is opened"),
@@ -166,8 +162,8 @@ fn tell_bad_lines(rt: &impl Print) -> io::Result<()> {
 fn hand_floor(rt: &impl Print, job: &mut Job, floor: Floor) -> io::Result<()> {
     let map = Frame::Map {
         reach: floor.reach,
-        planariser: 2,
-        host: 1,
+        planariser: u8::from(Rule::Relative),
+        host: u8::from(HostKind::Scan),
     };
     job.hand_over(rt, map)?;
     for (x, y) in floor.coordinates {
@@ -184,7 +180,7 @@ fn hand_floor(rt: &impl Print, job: &mut Job, floor: Floor) -> io::Result<()> {
 pub fn tell(rt: &(impl Print + AllocGlobal)) -> io::Result<()> {
     println!(rt; "Frames")?;
     let mut job = Job::new(Map::new(rt.alloc())?);
-    hand_floor(rt, &mut job, TAIL)?;
+    hand_floor(rt, &mut job, KITE)?;
     tell_job(rt, job)?;
     tell_bad_lines(rt)
 }

@@ -4,12 +4,13 @@
 
 use std::io;
 
+mod floors;
 mod frames;
-mod hosts;
 mod packets;
 mod pasts;
 mod placing;
 mod refusals;
+mod sends;
 mod story;
 mod thinning;
 

@@ -1,17 +1,20 @@
 //! Packets are sent to their ends, hop by hop.
-use crate::hosts::{HostKind, OfKind};
+use crate::floors::host_of;
 use crate::refusals::tell_refusal;
+use crate::sends::sends_of;
 use delivery::deliver;
-use face::packet::{Packet, Refusal, Unsent};
+use face::packet::{Packet, Refusal};
 use face::record::Record;
 use floor::planariser::Planariser;
 use floor::planariser::rule::Rule;
+use host::kind::HostKind;
+use host::making::Making;
 use host::scan::ScanHost;
 use host::sides::Reading;
 use host::table::TableHost;
 use kept::links::KeptGraph;
-use std::{io, iter};
-use worked::{CROWD, Floor, HALF_RING, MIDDLE, TAIL, TAIL_AWAY};
+use std::io;
+use worked::{Floor, ISLAND, KITE, MESH, RING, WEB};
 
 /// A packet to be sent over a floor, one node of which may be withdrawn before.
 #[derive(Clone, Copy)]
@@ -25,86 +28,66 @@ struct Errand {
 // The packets of the account.
 const ERRANDS: [Errand; 10] = [
     Errand {
-        floor: HALF_RING,
+        floor: RING,
         without: None,
         source: 0,
         target: 5,
     },
     Errand {
-        floor: HALF_RING,
+        floor: RING,
         without: Some(2),
         source: 0,
         target: 5,
     },
     Errand {
-        floor: TAIL,
+        floor: KITE,
         without: None,
         source: 0,
         target: 3,
     },
     Errand {
-        floor: TAIL_AWAY,
+        floor: ISLAND,
         without: None,
         source: 0,
         target: 3,
     },
     Errand {
-        floor: CROWD,
+        floor: MESH,
         without: None,
         source: 0,
         target: 8,
     },
     Errand {
-        floor: MIDDLE,
+        floor: WEB,
         without: None,
         source: 0,
         target: 10,
     },
     Errand {
-        floor: TAIL,
+        floor: KITE,
         without: None,
         source: 2,
         target: 2,
     },
     Errand {
-        floor: TAIL_AWAY,
+        floor: ISLAND,
         without: None,
         source: 3,
         target: 0,
     },
     Errand {
-        floor: TAIL,
+        floor: KITE,
         without: None,
         source: 0,
         target: 4,
     },
     Errand {
-        floor: TAIL,
+        floor: KITE,
         without: Some(3),
         source: 0,
         target: 3,
     },
 ];
-
-/// The record of a packet after one send more; none where it has ended or cannot be forwarded.
-pub fn sent<R: Reading, P: Planariser>(
-    graph: KeptGraph<'_, R, P>,
-    record: Record,
-) -> Option<Record> {
-    match Packet::take_up(record) {
-        Packet::Held(held) => match held.hop(graph) {
-            Ok(packet) => Some(packet.put_by()),
-            Err(Unsent { why: _, held }) => {
-                held.set_aside();
-                None
-            }
-        },
-        Packet::Ended(ended) => {
-            ended.file();
-            None
-        }
-    }
-}
 
 // Sends the packet of a record to its end, and tells each receiver.
 fn tell_hops<R: Reading, P: Planariser>(
@@ -112,8 +95,7 @@ fn tell_hops<R: Reading, P: Planariser>(
     graph: KeptGraph<'_, R, P>,
     record: Record,
 ) -> io::Result<()> {
-    let sends = iter::successors(sent(graph, record), |record| sent(graph, *record));
-    for record in sends.take(usize::from(u16::MAX)) {
+    for record in sends_of(graph, record) {
         print!(rt; " {}", record.holder)?;
     }
     Ok(())
@@ -159,21 +141,14 @@ fn tell_errand(rt: &impl Print, errand: Errand, kind: HostKind, rule: Rule) -> i
 }
 
 // Withdraws what an errand withdraws from a host of its floor, and tells its packet under each planariser.
-fn tell_over<H: OfKind>(rt: &(impl Print + AllocGlobal), errand: Errand) -> io::Result<()> {
-    let floor = errand.floor;
-    let Ok(mut host) = H::make(floor.map(rt.alloc())?, floor.reach) else {
-        return Ok(());
-    };
+fn tell_over<H: Making + Drop>(rt: &(impl Print + AllocGlobal), errand: Errand) -> io::Result<()> {
+    let mut host: H = host_of(rt.alloc(), errand.floor)?;
     if let Some(node) = errand.without {
         host.withdraw(node);
     }
     for rule in [Rule::Gabriel, Rule::Relative] {
         tell_errand(rt, errand, H::KIND, rule)?;
-        let graph = KeptGraph {
-            host: &host,
-            planariser: &rule,
-        };
-        tell_packet(rt, graph, errand)?;
+        tell_packet(rt, KeptGraph::new(&host, &rule), errand)?;
     }
     Ok(())
 }

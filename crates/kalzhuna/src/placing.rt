@@ -10,7 +10,7 @@ use network::list::{AppendRefusal, LentList};
 use network::types::LinkRecord;
 use plane::{Point, squared_distance};
 use std::io;
-use worked::HALF_RING;
+use worked::RING;
 
 // Points as they are tried: some are taken, some lie on a line with two others, some are too far out.
 const TRIES: [(u16, u16); 12] = [
@@ -109,9 +109,9 @@ pub fn tell(rt: &(impl Print + AllocGlobal)) -> io::Result<()> {
         tell_placing(rt, &mut map, Point::from(coordinates))?;
     }
     println!(rt; "{} nodes", map.count())?;
-    tell_host(rt, map, HALF_RING.reach, 8)?;
+    tell_host(rt, map, RING.reach, 8)?;
     for (reach, room) in [(0, 8), (46_341, 8), (46_340, 8), (46_340, 16)] {
-        tell_host(rt, HALF_RING.map(rt.alloc())?, reach, room)?;
+        tell_host(rt, RING.map(rt.alloc())?, reach, room)?;
     }
     tell_full(rt)
 }

@@ -1,12 +1,13 @@
 //! Two pasts. On the first a packet that was delivered is unreachable while a node is withdrawn.
-use crate::hosts::OfKind;
+use crate::floors::host_of;
 use crate::pasts::{Call, tell_past};
 use floor::planariser::rule::Rule;
+use host::making::Making;
 use host::scan::ScanHost;
 use host::table::TableHost;
 use network::network::Network;
 use std::io;
-use worked::{CROWD, Floor, HALF_RING};
+use worked::{Floor, MESH, RING};
 
 // Openings on several lines, refusals, a withdrawal and a return.
 const SWITCHED: [Call; 35] = [
@@ -157,21 +158,19 @@ const WALKED: [Call; 9] = [
 ];
 
 // Tells a past on a floor, over a host of it and under the planariser that keeps the Gabriel graph.
-fn tell_over<H: OfKind>(
+fn tell_over<H: Making + Drop>(
     rt: &(impl Print + AllocGlobal),
     floor: Floor,
     past: &[Call],
 ) -> io::Result<()> {
     let rule = Rule::Gabriel;
     println!(rt; "A past on floor {}, {}, {rule}", floor.name, H::KIND)?;
-    let Ok(host) = H::make(floor.map(rt.alloc())?, floor.reach) else {
-        return Ok(());
-    };
+    let host: H = host_of(rt.alloc(), floor)?;
     tell_past(rt, &mut Network::new(host, rule), past)
 }
 
 /// The account of pasts.
 pub fn tell(rt: &(impl Print + AllocGlobal)) -> io::Result<()> {
-    tell_over::<TableHost>(rt, HALF_RING, &SWITCHED)?;
-    tell_over::<ScanHost>(rt, CROWD, &WALKED)
+    tell_over::<TableHost>(rt, RING, &SWITCHED)?;
+    tell_over::<ScanHost>(rt, MESH, &WALKED)
 }

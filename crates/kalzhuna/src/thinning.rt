@@ -1,14 +1,15 @@
 //! The links that each planariser keeps over each host.
-use crate::hosts::OfKind;
+use crate::floors::host_of;
 use floor::planariser::Planariser;
 use floor::planariser::rule::Rule;
+use host::making::Making;
 use host::neighbours::Neighbours;
 use host::scan::ScanHost;
 use host::sides::Reading;
 use host::table::TableHost;
 use kept::links::KeptGraph;
 use std::io;
-use worked::{CROWD, Floor, HALF_RING, MIDDLE, TAIL, TAIL_AWAY};
+use worked::{Floor, ISLAND, KITE, MESH, RING, WEB};
 
 // Tells the kept links of a graph, the lower node first, and how many they are.
 fn tell_links<R: Reading, P: Planariser>(
@@ -26,17 +27,11 @@ fn tell_links<R: Reading, P: Planariser>(
 }
 
 // Tells the kept links over a host of a floor, under each planariser.
-fn tell_over<H: OfKind>(rt: &(impl Print + AllocGlobal), floor: Floor) -> io::Result<()> {
-    let Ok(host) = H::make(floor.map(rt.alloc())?, floor.reach) else {
-        return Ok(());
-    };
+fn tell_over<H: Making + Drop>(rt: &(impl Print + AllocGlobal), floor: Floor) -> io::Result<()> {
+    let host: H = host_of(rt.alloc(), floor)?;
     for rule in [Rule::Gabriel, Rule::Relative] {
-        let graph = KeptGraph {
-            host: &host,
-            planariser: &rule,
-        };
         print!(rt; "{}, {}, {rule}:", floor.name, H::KIND)?;
-        tell_links(rt, graph)?;
+        tell_links(rt, KeptGraph::new(&host, &rule))?;
     }
     Ok(())
 }
@@ -44,7 +39,7 @@ fn tell_over<H: OfKind>(rt: &(impl Print + AllocGlobal), floor: Floor) -> io::Re
 /// The account of the kept links.
 pub fn tell(rt: &(impl Print + AllocGlobal)) -> io::Result<()> {
     println!(rt; "Kept links")?;
-    for floor in [HALF_RING, TAIL, TAIL_AWAY, CROWD, MIDDLE] {
+    for floor in [RING, KITE, ISLAND, MESH, WEB] {
         tell_over::<ScanHost>(rt, floor)?;
         tell_over::<TableHost>(rt, floor)?;
     }

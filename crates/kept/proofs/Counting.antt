@@ -6,7 +6,7 @@ use Rattle.std.specs.List.{find, filter}
 use Rattle.floor.specs.Meaning.{Meaning, radio, neighbours, node, known_as, is_among}
 use Rattle.floor.specs.Planar.{Blocks}
 use Rattle.host.specs.Questions.{next_neighbour, numbered_from}
-use Rattle.host.specs.Radios.{nth_below}
+use Rattle.std.proofs.lemmas.Option.{slice_get_within}
 use Rattle.kept.specs.Kept.{blocked, kept, kept_of, kept_neighbours, kept_from, kept_links}
 use Rattle.std.proofs.lemmas.List.Sums.{length-filter, count_by-le-length}
 use Rattle.host.proofs.Asking.{neighbours_few}
@@ -19,14 +19,14 @@ module _ (m : Meaning) (i : ℕ) where
   node_radio u e = go (radio m i) refl e
     where
       go : (o : Option Radio) → radio m i ≡ o → Some u ≡ known_as i o → (r : Radio) × (radio m i ≡ Some r) × (u ≡ record { number = i; point = r.point })
-      go None q h = let z : ◌≡◌ {A = ℕ} 0 1 = cc in absurd (omega arith)
+      go None q h = cc
       go (Some r) q h = (r, q, cc)
 
   pub node_number : (u : Node) → Some u ≡ node m i → u.number ≡ i
   node_number u e = let (r, q, s) = node_radio u e in ap (λ (n : Node). n.number) s
 
   pub node_below : (u : Node) → Some u ≡ node m i → i < length m.nodes
-  node_below u e = let (r, q, s) = node_radio u e in nth_below m.nodes i r q
+  node_below u e = let (r, q, s) = node_radio u e in slice_get_within m.nodes i r q
 
   node_kept : (b : Blocks) (u : Node) → Some u ≡ node m i → kept_neighbours b m i ≡ kept b u.point (neighbours m i)
   node_kept b u e =
@@ -72,9 +72,9 @@ module _ (b : Blocks) (m : Meaning) (i j : ℕ) (u : Node) (at : Some u ≡ node
 
 -- ---- the kept neighbours of a node that are numbered above it
 
-those_swap : {A : Type 0} (f g : A → Bool) (xs : List A) → filter f (filter g xs) ≡ filter g (filter f xs)
-those_swap f g [] = refl
-those_swap f g (x ∷ xs) = go (f x) refl (g x) refl (those_swap f g xs)
+filter_swap : {A : Type 0} (f g : A → Bool) (xs : List A) → filter f (filter g xs) ≡ filter g (filter f xs)
+filter_swap f g [] = refl
+filter_swap f g (x ∷ xs) = go (f x) refl (g x) refl (filter_swap f g xs)
   where
     go : (s : Bool) → f x ≡ s → (t : Bool) → g x ≡ t → filter f (filter g xs) ≡ filter g (filter f xs)
         → filter f (cond t (x ∷ filter g xs) (filter g xs)) ≡ filter g (cond s (x ∷ filter f xs) (filter f xs))
@@ -86,7 +86,7 @@ those_swap f g (x ∷ xs) = go (f x) refl (g x) refl (those_swap f g xs)
 abbrev pub above : Blocks → Meaning → ℕ → ℕ
 above b m i = length (filter (λ (v : Node). ltb i v.number) (kept_neighbours b m i))
 
-filter_few : {A : Type 0} (test : A → Bool) (xs : List A) → length (filter test xs) ≤ length xs
+pub filter_few : {A : Type 0} (test : A → Bool) (xs : List A) → length (filter test xs) ≤ length xs
 filter_few test xs = let count = count_by-le-length test xs in let same = length-filter test xs in omega arith
 
 pub few_numbered : (m : Meaning) (i j : ℕ) → length (numbered_from j (neighbours m i)) ≤ length m.nodes
@@ -113,7 +113,7 @@ counted_above b m i u at =
     let e : suc i ≡ i + 1 = omega arith in
     ap (λ (k : ℕ). length (filter (λ (v : Node). not (blocked b u.point v (neighbours m k))) (numbered_from (i + 1) (neighbours m i)))) (node_number m i u at)
     ∙ sym (ap (λ (ns : List Node). length (filter (λ (v : Node). ltb i v.number) ns)) (node_kept m i b u at)
-    ∙ ap length (those_swap (λ (v : Node). ltb i v.number) (clear b m i u) (neighbours m i))
+    ∙ ap length (filter_swap (λ (v : Node). ltb i v.number) (clear b m i u) (neighbours m i))
     ∙ ap (λ (k : ℕ). length (filter (clear b m i u) (numbered_from k (neighbours m i)))) e)
 
 -- ---- all kept links

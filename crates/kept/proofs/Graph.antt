@@ -7,13 +7,13 @@ use Rattle.plane.specs.Plane.{squared}
 use Rattle.floor.specs.declared.node.Node.{Node}
 use Rattle.floor.specs.declared.node.Radio.{Radio}
 use Rattle.std.specs.List.{list_any}
-use Rattle.floor.specs.Lists.{differ}
+use Rattle.floor.specs.Numbers.{differ}
 use Rattle.floor.specs.Meaning.{Meaning, Serving, radio, neighbours, serving_at}
 use Rattle.floor.specs.Planar.{Blocks, Lawful}
 use Rattle.floor.specs.DiscInLune.{squared_turned}
 use Rattle.kept.specs.Kept.{Kept, kept_of, kept_neighbours}
 use Rattle.kept.specs.Laws.{Near, Clear, KeptExactly, KeptIsSymmetric}
-use Rattle.kept.proofs.Lists.{Has, holds, told, alike, fails, some_found, found_some, those_has, has_those}
+use Rattle.kept.proofs.Lists.{Has, holds, told, alike, fails, some_found, found_some, filter_has, has_filter}
 use Rattle.kept.proofs.Near.{differ_apart, apart_differ, is_same, same_is, both, pair, same_some, serving_radio, neighbours_has, has_neighbours, near_back, one_point}
 
 module _ (b : Blocks) (m : Meaning) where
@@ -37,7 +37,7 @@ module _ (b : Blocks) (m : Meaning) where
           → (s : Near m u n.number) × (n.point ≡ s.q) × (list_any (blocker s.p n) (neighbours m u) ≡ false)
       go None e g = elim g [ ]
       go (Some p) e g =
-          let (i, k) = those_has (λ (v : Node). not (list_any (blocker p.point v) (neighbours m u))) (neighbours m u) n g in
+          let (i, k) = filter_has (λ (v : Node). not (list_any (blocker p.point v) (neighbours m u))) (neighbours m u) n g in
           let (s, at) = neighbours_has m u n i in
           let (r, f, on, x) = serving_radio m u s.p s.at_u in
           let same : p.point ≡ s.p = ap (λ (z : Radio). z.point) (same_some p r (sym e ∙ f)) ∙ x in
@@ -47,7 +47,7 @@ module _ (b : Blocks) (m : Meaning) where
   has_kept u v s k =
       let (r, f, on, x) = serving_radio m u s.p s.at_u in
       subst (Has (target u v s)) (sym (ap (kept_of b (neighbours m u)) f))
-      (has_those (λ (n : Node). not (list_any (blocker r.point n) (neighbours m u))) (neighbours m u) (target u v s) (has_neighbours m u v s)
+      (has_filter (λ (n : Node). not (list_any (blocker r.point n) (neighbours m u))) (neighbours m u) (target u v s) (has_neighbours m u v s)
       (ap not (ap (λ (z : Point). list_any (blocker z (target u v s)) (neighbours m u)) x ∙ k)))
 
   -- a neighbour that blocks, or a kept link

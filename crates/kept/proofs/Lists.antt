@@ -39,18 +39,18 @@ module _ {A : Type 0} where
       go true = refl
       go false = refl
 
-  pub those_has : (test : A → Bool) (xs : List A) (x : A) → Has x (filter test xs) → Has x xs × (test x ≡ true)
-  those_has test [] x i = elim i [ ]
-  those_has test (y ∷ ys) x i = go (test y) refl i (λ j. those_has test ys x j)
+  pub filter_has : (test : A → Bool) (xs : List A) (x : A) → Has x (filter test xs) → Has x xs × (test x ≡ true)
+  filter_has test [] x i = elim i [ ]
+  filter_has test (y ∷ ys) x i = go (test y) refl i (λ j. filter_has test ys x j)
     where
       go : (b : Bool) → test y ≡ b → Has x (cond b (y ∷ filter test ys) (filter test ys)) → (Has x (filter test ys) → Has x ys × (test x ≡ true)) → Has x (y ∷ ys) × (test x ≡ true)
       go true q (inl p) more = (inl p, ap test p ∙ q)
       go true q (inr j) more = let (k, h) = more j in (inr k, h)
       go false q j more = let (k, h) = more j in (inr k, h)
 
-  pub has_those : (test : A → Bool) (xs : List A) (x : A) → Has x xs → test x ≡ true → Has x (filter test xs)
-  has_those test [] x i e = elim i [ ]
-  has_those test (y ∷ ys) x i e = go (test y) refl i (λ j. has_those test ys x j e)
+  pub has_filter : (test : A → Bool) (xs : List A) (x : A) → Has x xs → test x ≡ true → Has x (filter test xs)
+  has_filter test [] x i e = elim i [ ]
+  has_filter test (y ∷ ys) x i e = go (test y) refl i (λ j. has_filter test ys x j e)
     where
       go : (b : Bool) → test y ≡ b → (x ≡ y) ⊎ Has x ys → (Has x ys → Has x (filter test ys)) → Has x (cond b (y ∷ filter test ys) (filter test ys))
       go true q (inl p) more = inl p

@@ -7,7 +7,7 @@ use Rattle.plane.specs.Plane.{squared}
 use Rattle.floor.specs.declared.node.Node.{Node}
 use Rattle.floor.specs.declared.node.Radio.{Radio}
 use Rattle.std.specs.List.{slice_get}
-use Rattle.floor.specs.Lists.{differ}
+use Rattle.floor.specs.Numbers.{differ}
 use Rattle.floor.specs.Meaning.{Meaning, radio, neighbours, heard, heard_by, hear, is_among, serving_at, serving_place}
 use Rattle.floor.specs.DiscInLune.{squared_turned}
 use Rattle.kept.specs.Laws.{Near, NeighboursAreNear}
@@ -46,7 +46,7 @@ pub same_some : {A : Type 0} (x y : A) → Some x ≡ Some y → x ≡ y
 same_some x y e = cc
 
 pub some_none : {A : Type 0} (x : A) → None ≡ Some x → ⊥
-some_none x e = let z : ◌≡◌ {A = ℕ} 0 1 = cc in omega arith
+some_none x e = cc
 
 -- a node in service, as a radio of its host
 pub serving_radio : (m : Meaning) (i : ℕ) (p : Point) → serving_at m i ≡ Some p → (r : Radio) × (radio m i ≡ Some r) × (r.serving ≡ true) × (r.point ≡ p)

@@ -17,7 +17,7 @@ use Rattle.host.specs.Questions.{next_neighbour}
 use Rattle.kept.specs.declared.bearing.Bearing.{Bearing}
 use Rattle.kept.specs.Kept.{blocked, kept, first_round, node_at, node_or_origin}
 use Rattle.kept.specs.Bearings.{bearing}
-use Rattle.kept.proofs.Lists.{Has, those_has}
+use Rattle.kept.proofs.Lists.{Has, filter_has}
 use Rattle.kept.proofs.Near.{neighbours_has, serving_radio}
 use Rattle.host.proofs.Asking.{Ascends, neighbours_ascend, asked_some}
 
@@ -81,7 +81,7 @@ neighbour_apart m h i n has e =
     (sym (radio_at m i r ru) ∙ sym e ∙ is ∙ sym op)
 
 asked_has : (m : Meaning) (i j : ℕ) (w : Node) → Some w ≡ next_neighbour m i j → Has w (neighbours m i)
-asked_has m i j w e = (those_has (λ (n : Node). leb j n.number) (neighbours m i) w (subst (Has w) (sym (asked_some m i j w e).0) (inl refl))).0
+asked_has m i j w e = (filter_has (λ (n : Node). leb j n.number) (neighbours m i) w (subst (Has w) (sym (asked_some m i j w e).0) (inl refl))).0
 
 pub asked_apart : (m : Meaning) → Mapped m → (i j : ℕ) (w : Node) → Some w ≡ next_neighbour m i j → w.point ≢ (node_at m i).point
 asked_apart m h i j w e = neighbour_apart m h i w (asked_has m i j w e)
@@ -212,4 +212,4 @@ unknown_there b m i j n = sym (known_is b m i j (node_at m i).point ∙ ap (if_t
 
 pub known_elsewhere : (m : Meaning) → Mapped m → (i j : ℕ) (w : Node) → Some w ≡ next_neighbour m i j → (t : Bool) (n : Node) → cond t (Some w) None ≡ Some n → n.point ≢ (node_at m i).point
 known_elsewhere m h i j w e true n k = let same : w ≡ n = cc in subst (λ (x : Node). x.point ≢ (node_at m i).point) same (asked_apart m h i j w e)
-known_elsewhere m h i j w e false n k = let z : ◌≡◌ {A = ℕ} 0 1 = cc in absurd (omega arith)
+known_elsewhere m h i j w e false n k = cc

@@ -9,7 +9,7 @@ use Rattle.order.specs.Directions.{sooner}
 use Rattle.floor.specs.declared.node.Node.{Node}
 use Rattle.floor.specs.declared.node.Radio.{Radio}
 use Rattle.std.specs.List.{filter, list_any}
-use Rattle.floor.specs.Lists.{differ}
+use Rattle.floor.specs.Numbers.{differ}
 use Rattle.floor.specs.Meaning.{Meaning, radio, neighbours, is_among}
 use Rattle.floor.specs.Planar.{Blocks}
 

@@ -25,6 +25,7 @@ pub trait Surroundings {
         ensures elsewhere { (n : Node) → result ≡ Some n → n.point ≢ (here self.now).point };
 
     /// The kept neighbour that is first round the node from the direction of another point.
+    // Three values and not a `Sweep`: its fourth is the node's own point.
     fn first(&self, sense: Sense, start: Start, towards: Point) -> Option<Node>
         ensures nowhere { towards ≡ (here self.now).point → result ≡ None }
         ensures found { towards ≢ (here self.now).point → result ≡ first_round sense start (here self.now).point (way (here self.now).point towards) (near self.now) };

@@ -18,9 +18,19 @@ pub struct KeptGraph<'a, R: Reading, P: Planariser> {
 }
 
 impl<'a, R: Reading, P: Planariser> KeptGraph<'a, R, P> {
+    /// What that planariser keeps of that host's links.
+    pub fn new(host: &'a R, planariser: &'a P) -> KeptGraph<'a, R, P>
+        ensures host { result.host.now ≡ host.now }
+        ensures planariser { result.planariser.now ≡ planariser.now }
+    {
+        KeptGraph { host, planariser }
+    }
+
     /// The view of node `number`.
     pub fn view(self, number: u8) -> View<'a, R, P>
-        ensures { (result.graph.host.now ≡ self.entry.host.now) × ((result.graph.planariser.now ≡ self.entry.planariser.now) × (result.number ≡ number)) }
+        ensures host { result.graph.host.now ≡ self.entry.host.now }
+        ensures planariser { result.graph.planariser.now ≡ self.entry.planariser.now }
+        ensures number { result.number ≡ number }
     {
         View {
             graph: self,
@@ -32,11 +42,7 @@ impl<'a, R: Reading, P: Planariser> KeptGraph<'a, R, P> {
     fn node(self, i: u8) -> Option<Node>
         ensures { result ≡ node (R.Reading.meaning self.entry.host.now) i }
     {
-        let radio = self.host.radio(i)?;
-        Some(Node {
-            number: i,
-            point: radio.point,
-        })
+        self.host.radio(i).map(|radio| radio.node(i))
     }
 
     // Whether a neighbour of `u` other than `v` blocks the link between them.
@@ -75,7 +81,7 @@ impl<'a, R: Reading, P: Planariser> KeptGraph<'a, R, P> {
             .count() as u16
     }
 
-    /// The number of kept links.
+    /// The number of kept links, added up node by node as its definition does.
     pub fn kept_links(self) -> u16
         ensures { result ≡ kept_links (P.Planariser.blocking self.entry.planariser.now) (R.Reading.meaning self.entry.host.now) }
     {

@@ -23,7 +23,7 @@ pub struct View<'a, R: Reading, P: Planariser> {
 }
 
 // The bearing of a neighbour in a sweep round the node, where it lies in a direction.
-fn bearing(sweep: Sweep, w: Node) -> Option<Bearing>
+fn bearing_of(sweep: Sweep, w: Node) -> Option<Bearing>
     ensures { sweep.from ≢ sweep.at → w.point ≢ sweep.at → result ≡ Some (bearing sweep.sense sweep.start sweep.at sweep.from w) }
 {
     let direction = sweep.direction(w.point)?;
@@ -36,13 +36,12 @@ impl<R: Reading, P: Planariser> Surroundings for View<'_, R, P> {
     ghost near = { λ v. kept (P.Planariser.blocking v.graph.planariser.now) (node_at (R.Reading.meaning v.graph.host.now) v.number).point (neighbours (R.Reading.meaning v.graph.host.now) v.number) };
 
     fn node(&self) -> Node {
-        let point = match self.graph.host.radio(self.number) {
-            Some(radio) => radio.point,
-            None => Point { x: 0, y: 0 },
-        };
-        Node {
-            number: self.number,
-            point,
+        match self.graph.host.radio(self.number) {
+            Some(radio) => radio.node(self.number),
+            None => Node {
+                number: self.number,
+                point: Point { x: 0, y: 0 },
+            },
         }
     }
 
@@ -66,13 +65,13 @@ impl<R: Reading, P: Planariser> Surroundings for View<'_, R, P> {
         };
         let mut keeper = Keeper::new();
         for w in Neighbours::of(self.graph.host, self.number) {
-            if let Some(bearing) = bearing(sweep, w) {
+            if let Some(bearing) = bearing_of(sweep, w) {
                 // Whether the link is kept is asked last: it is a walk over all neighbours.
                 if keeper.would_take(&bearing) && !self.graph.is_blocked(here, w) {
                     let _ = keeper.offer(bearing);
                 }
             }
         }
-        Some(keeper.into_held()?.node)
+        keeper.into_held().map(|bearing| bearing.node)
     }
 }

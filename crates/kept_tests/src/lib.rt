@@ -13,7 +13,7 @@ mod tests {
     use kept::links::KeptGraph;
     use std::process::Abort;
     use std::test::Fail;
-    use worked::{CROWD, Floor, MIDDLE, TAIL, TAIL_AWAY};
+    use worked::{Floor, ISLAND, KITE, MESH, WEB};
 
     const EMPTY: Floor = Floor {
         name: "no nodes",
@@ -35,14 +35,6 @@ mod tests {
         coordinates: &[(0, 0), (4, 3), (4, 0)],
     };
 
-    // What a planariser keeps of a host's links.
-    fn graph_of<'a, R: Reading, P: Planariser>(
-        host: &'a R,
-        planariser: &'a P,
-    ) -> KeptGraph<'a, R, P> {
-        KeptGraph { host, planariser }
-    }
-
     // Checks that links are kept both ways, those of numbers that are no nodes too, and how many there are.
     fn check_graph<R: Reading, P: Planariser>(
         rt: &impl Abort,
@@ -61,17 +53,17 @@ mod tests {
 
     // Checks both graphs of a host, by the number of links of each.
     fn check_host<R: Reading>(rt: &impl Abort, host: &R, gabriel: u16, relative: u16) {
-        check_graph(rt, graph_of(host, &Gabriel), gabriel);
-        check_graph(rt, graph_of(host, &Relative), relative);
+        check_graph(rt, KeptGraph::new(host, &Gabriel), gabriel);
+        check_graph(rt, KeptGraph::new(host, &Relative), relative);
     }
 
     // Floors, and how many links are kept: in the Gabriel graph, in the relative one.
     const COUNTS: [(Floor, u16, u16); 7] = [
         (EMPTY, 0, 0),
-        (TAIL, 4, 3),
-        (TAIL_AWAY, 3, 2),
-        (CROWD, 12, 9),
-        (MIDDLE, 17, 12),
+        (KITE, 4, 3),
+        (ISLAND, 3, 2),
+        (MESH, 12, 9),
+        (WEB, 17, 12),
         (RECTANGLE, 4, 4),
         (RIGHT_ANGLE, 2, 2),
     ];
@@ -87,7 +79,7 @@ mod tests {
         Ok(())
     }
 
-    // Two nodes of the tail's floor, and whether the link between them is kept: in the Gabriel graph, in the relative one.
+    // Two nodes of the kite, and whether the link between them is kept: in the Gabriel graph, in the relative one.
     const LINKS: [(u8, u8, bool, bool); 7] = [
         (0, 1, true, true),
         (0, 2, true, false),
@@ -101,29 +93,29 @@ mod tests {
     // Checks each of those links.
     fn check_links<R: Reading>(rt: &impl Abort, host: &R) {
         for (i, j, gabriel, relative) in LINKS {
-            assert_eq!(rt; graph_of(host, &Gabriel).is_kept(i, j), gabriel);
-            assert_eq!(rt; graph_of(host, &Relative).is_kept(i, j), relative);
+            assert_eq!(rt; KeptGraph::new(host, &Gabriel).is_kept(i, j), gabriel);
+            assert_eq!(rt; KeptGraph::new(host, &Relative).is_kept(i, j), relative);
         }
     }
 
     #[test]
     fn keeps_links(rt: HostRuntime) -> Result<(), Fail> {
-        let scan: ScanHost = TAIL.host(rt.alloc())?;
+        let scan: ScanHost = KITE.host(rt.alloc())?;
         check_links(&rt, &scan);
-        let table: TableHost = TAIL.host(rt.alloc())?;
+        let table: TableHost = KITE.host(rt.alloc())?;
         check_links(&rt, &table);
         Ok(())
     }
 
     // Checks that the long side is kept just while the node opposite is withdrawn.
     fn check_withdrawn<H: Switching>(rt: &impl Abort, host: &mut H) {
-        assert!(rt; !graph_of(host, &Gabriel).is_kept(0, 1));
+        assert!(rt; !KeptGraph::new(host, &Gabriel).is_kept(0, 1));
         host.withdraw(2);
-        assert!(rt; graph_of(host, &Gabriel).is_kept(0, 1));
-        assert_eq!(rt; graph_of(host, &Gabriel).kept_links(), 1);
+        assert!(rt; KeptGraph::new(host, &Gabriel).is_kept(0, 1));
+        assert_eq!(rt; KeptGraph::new(host, &Gabriel).kept_links(), 1);
         host.restore(2);
-        assert!(rt; !graph_of(host, &Gabriel).is_kept(0, 1));
-        assert_eq!(rt; graph_of(host, &Gabriel).kept_links(), 2);
+        assert!(rt; !KeptGraph::new(host, &Gabriel).is_kept(0, 1));
+        assert_eq!(rt; KeptGraph::new(host, &Gabriel).kept_links(), 2);
     }
 
     #[test]

@@ -6,7 +6,7 @@ use Rattle.plane.specs.declared.Point.{Point}
 use Rattle.floor.specs.declared.node.Node.{Node}
 use Rattle.floor.specs.declared.node.Radio.{Radio}
 use Rattle.std.specs.List.{slice_get, filter, list_any}
-use Rattle.floor.specs.Lists.{differ}
+use Rattle.floor.specs.Numbers.{differ}
 use Rattle.floor.specs.Meaning.{Meaning, Mapped, radio, place_of, point_at, hear, heard, heard_by, neighbours, known_as, node}
 use Rattle.floor.specs.Planar.{Blocks}
 use Rattle.kept.specs.Kept.{kept}
@@ -34,9 +34,9 @@ some_alike : {A : Type 0} (f g : A → Bool) (xs : List A) → Each (λ (x : A).
 some_alike f g [] h = refl
 some_alike f g (x ∷ xs) h = λ i. h.0 i || some_alike f g xs h.1 i
 
-those_alike : {A : Type 0} (f g : A → Bool) (xs : List A) → Each (λ (x : A). f x ≡ g x) xs → filter f xs ≡ filter g xs
-those_alike f g [] h = refl
-those_alike f g (x ∷ xs) h = λ i. let rest = those_alike f g xs h.1 i in cond (h.0 i) (x ∷ rest) rest
+filter_alike : {A : Type 0} (f g : A → Bool) (xs : List A) → Each (λ (x : A). f x ≡ g x) xs → filter f xs ≡ filter g xs
+filter_alike f g [] h = refl
+filter_alike f g (x ∷ xs) h = λ i. let rest = filter_alike f g xs h.1 i in cond (h.0 i) (x ∷ rest) rest
 
 and_alike : (x y z : Bool) → (x ≡ true → y ≡ z) → (x && y) ≡ (x && z)
 and_alike true y z h = h refl
@@ -72,7 +72,7 @@ module _ (m : Meaning) (i : ℕ) where
 
 module _ (b b' : Blocks) (alike : Alike b b') (m : Meaning) (M : Mapped m) where
   kept_alike : (i : ℕ) (p : Point) → point_at m i ≡ Some p → kept b p (neighbours m i) ≡ kept b' p (neighbours m i)
-  kept_alike i p at = those_alike _ _ (neighbours m i) (each_map unblocked (neighbours m i) (others m i))
+  kept_alike i p at = filter_alike _ _ (neighbours m i) (each_map unblocked (neighbours m i) (others m i))
     where
       blocked : (v w : Node) → Other m i v → Other m i w → (differ w.number v.number && b p v.point w.point) ≡ (differ w.number v.number && b' p v.point w.point)
       blocked v w V W =

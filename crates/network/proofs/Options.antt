@@ -3,7 +3,7 @@ use Rattle.std.proofs.Common.{◌≡◌, ℕ, zero, suc, Bool, true, false, List
 use Rattle.std.proofs.Math.Bool.{or-true}
 use Rattle.std.proofs.lemmas.List.{set-get_or}
 use Rattle.std.specs.List.{list_any}
-use Rattle.floor.specs.Lists.{iterate}
+use Rattle.floor.specs.Numbers.{iterate}
 
 pub unsome : {A : Type 0} (x y : A) → Some x ≡ Some y → x ≡ y
 unsome x y h = cc

@@ -44,10 +44,7 @@ impl<H: Switching, P: Planariser> Network<H, P> {
         ensures host { result.host.now ≡ self.now.host }
         ensures planariser { result.planariser.now ≡ self.now.planariser }
     {
-        KeptGraph {
-            host: &self.host,
-            planariser: &self.planariser,
-        }
+        KeptGraph::new(&self.host, &self.planariser)
     }
 
     /// Opens a packet from `source` to `target` on an empty line.
@@ -85,9 +82,9 @@ impl<H: Switching, P: Planariser> Network<H, P> {
         ensures lent { list.new.memory.ghost_name ≡ list.old.memory.ghost_name }
     {
         let mut packet = self.lines.packet(line)?;
-        let Some(_) = packet.hand else {
+        if packet.hand.is_none() {
             return Err(Refusal::PacketEnded);
-        };
+        }
         let carried = carry_on(&mut packet, budget, list, self.graph());
         self.lines.put(line, Some(packet));
         Ok(carried)

@@ -63,7 +63,7 @@ pub enum Refusal {
     NetworkBusy,
 }
 
-/// A packet that is not opened.
+/// A packet that is not opened. An opening never answers `NoWay`: only a forwarding does.
 impl From<Unopened> for Refusal {
     ghost use Rattle.network.specs.Refusals.{not_opened};
 

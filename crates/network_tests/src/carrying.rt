@@ -11,7 +11,7 @@ use network::network::Network;
 use network::types::{Carried, HopRecord, Refusal, Stopper};
 use std::process::Abort;
 use std::test::Fail;
-use worked::{CROWD, TAIL};
+use worked::{KITE, MESH};
 
 // What memory holds before it is lent: no node sends to itself.
 const BLANK: HopRecord = HopRecord {
@@ -22,10 +22,10 @@ const BLANK: HopRecord = HopRecord {
 
 // Checks that a list holds these hops.
 fn check_list(rt: &impl Abort, listed: &[HopRecord], hops: &[(u8, u8, Phase)]) {
-    assert_eq!(rt; listed.len(), hops.len());
-    for (hop, expected) in listed.iter().zip(hops) {
-        assert_eq!(rt; (hop.sender, hop.receiver, hop.phase), *expected);
-    }
+    let told = listed
+        .iter()
+        .map(|hop| (hop.sender, hop.receiver, hop.phase));
+    assert!(rt; told.eq(hops.iter().copied()));
 }
 
 // A carry that made so many hops and was stopped by this.
@@ -33,7 +33,7 @@ fn stopped(hops: u16, stopper: Stopper) -> Result<Carried, Refusal> {
     Ok(Carried { hops, stopper })
 }
 
-// The way from node 0 to node 3 of the tail's floor, in three parts.
+// The way from node 0 to node 3 on the kite, in three parts.
 const CLOSING: [(u8, u8, Phase); 3] = [
     (0, 1, Phase::Round),
     (1, 2, Phase::Round),
@@ -84,9 +84,9 @@ fn check_stoppers<H: Switching, P: Planariser>(rt: &impl Abort, network: &mut Ne
 
 #[test]
 fn stops(rt: HostRuntime) -> Result<(), Fail> {
-    let mut scan = network_of::<ScanHost, _>(rt.alloc(), TAIL, Gabriel)?;
+    let mut scan = network_of::<ScanHost, _>(rt.alloc(), KITE, Gabriel)?;
     check_stoppers(&rt, &mut scan);
-    let mut table = network_of::<TableHost, _>(rt.alloc(), TAIL, Gabriel)?;
+    let mut table = network_of::<TableHost, _>(rt.alloc(), KITE, Gabriel)?;
     check_stoppers(&rt, &mut table);
     Ok(())
 }
@@ -104,9 +104,9 @@ fn check_order<H: Switching, P: Planariser>(rt: &impl Abort, network: &mut Netwo
 
 #[test]
 fn stops_in_order(rt: HostRuntime) -> Result<(), Fail> {
-    let mut scan = network_of::<ScanHost, _>(rt.alloc(), TAIL, Gabriel)?;
+    let mut scan = network_of::<ScanHost, _>(rt.alloc(), KITE, Gabriel)?;
     check_order(&rt, &mut scan);
-    let mut table = network_of::<TableHost, _>(rt.alloc(), TAIL, Gabriel)?;
+    let mut table = network_of::<TableHost, _>(rt.alloc(), KITE, Gabriel)?;
     check_order(&rt, &mut table);
     Ok(())
 }
@@ -129,7 +129,7 @@ const THREE_ROUNDS: [(u8, u8, Phase); 14] = [
     (5, 8, Phase::Round),
 ];
 
-// Checks the crowd's way from node 0 to node 8, in one list over two carries.
+// Checks the mesh's way from node 0 to node 8, in one list over two carries.
 fn check_rounds<H: Switching, P: Planariser>(rt: &impl Abort, network: &mut Network<H, P>) {
     assert_eq!(rt; refusal(network.open(7, 0, 8)), None);
     let mut memory = [BLANK; 20];
@@ -144,9 +144,9 @@ fn check_rounds<H: Switching, P: Planariser>(rt: &impl Abort, network: &mut Netw
 
 #[test]
 fn lists_each_phase(rt: HostRuntime) -> Result<(), Fail> {
-    let mut scan = network_of::<ScanHost, _>(rt.alloc(), CROWD, Gabriel)?;
+    let mut scan = network_of::<ScanHost, _>(rt.alloc(), MESH, Gabriel)?;
     check_rounds(&rt, &mut scan);
-    let mut table = network_of::<TableHost, _>(rt.alloc(), CROWD, Gabriel)?;
+    let mut table = network_of::<TableHost, _>(rt.alloc(), MESH, Gabriel)?;
     check_rounds(&rt, &mut table);
     Ok(())
 }

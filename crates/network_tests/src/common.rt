@@ -1,19 +1,9 @@
 //! What tests of several kinds ask.
 use floor::planariser::Planariser;
 use host::making::Making;
-use host::sides::Reading;
-use kept::links::KeptGraph;
 use network::network::Network;
 use std::alloc::Global;
 use worked::{Floor, NoHost};
-
-/// What a planariser keeps of a host's links.
-pub fn graph_of<'a, R: Reading, P: Planariser>(
-    host: &'a R,
-    planariser: &'a P,
-) -> KeptGraph<'a, R, P> {
-    KeptGraph { host, planariser }
-}
 
 /// A network of a floor.
 pub fn network_of<H: Making, P: Planariser + Drop>(

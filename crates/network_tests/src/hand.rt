@@ -1,5 +1,5 @@
 //! Packets in the hand.
-use crate::common::{graph_of, refusal};
+use crate::common::refusal;
 use face::packet::{Packet, Refusal, Unsent};
 use face::record::{End, Link, Record};
 use floor::planariser::gabriel::Gabriel;
@@ -9,7 +9,7 @@ use host::table::TableHost;
 use kept::links::KeptGraph;
 use std::process::Abort;
 use std::test::Fail;
-use worked::{Floor, TAIL};
+use worked::{Floor, KITE};
 
 // What the Gabriel planariser keeps of a host's links.
 type Graph<'a, R> = KeptGraph<'a, R, Gabriel>;
@@ -27,6 +27,7 @@ enum NotReceived {
 }
 
 // Takes a packet up, forwards it over one graph and has it received over another.
+// Tests and programs stand alone, each with such a function; no call of the library needs two graphs.
 fn send<A: Reading, B: Reading>(
     from: Graph<'_, A>,
     to: Graph<'_, B>,
@@ -119,18 +120,21 @@ fn check_way<R: Reading>(rt: &impl Abort, graph: Graph<'_, R>) -> Result<(), Fai
 
 #[test]
 fn goes_from_hand_to_hand(rt: HostRuntime) -> Result<(), Fail> {
-    let scan: ScanHost = TAIL.host(rt.alloc())?;
-    check_way(&rt, graph_of(&scan, &Gabriel))?;
-    let table: TableHost = TAIL.host(rt.alloc())?;
-    check_way(&rt, graph_of(&table, &Gabriel))
+    let scan: ScanHost = KITE.host(rt.alloc())?;
+    check_way(&rt, KeptGraph::new(&scan, &Gabriel))?;
+    let table: TableHost = KITE.host(rt.alloc())?;
+    check_way(&rt, KeptGraph::new(&table, &Gabriel))
 }
 
 #[test]
 fn is_handed_back(rt: HostRuntime) -> Result<(), Fail> {
-    let host: ScanHost = TAIL.host(rt.alloc())?;
-    let mut other: TableHost = TAIL.host(rt.alloc())?;
+    let host: ScanHost = KITE.host(rt.alloc())?;
+    let mut other: TableHost = KITE.host(rt.alloc())?;
     other.withdraw(2);
-    let (graph, other) = (graph_of(&host, &Gabriel), graph_of(&other, &Gabriel));
+    let (graph, other) = (
+        KeptGraph::new(&host, &Gabriel),
+        KeptGraph::new(&other, &Gabriel),
+    );
     // It is at node 1 with the link to node 2 in hand, which the other graph does not have.
     let record = send(graph, graph, opened(graph, 0, 3)?)?;
     assert_eq!(rt; Standing::of(record), Standing::held(1, 2, 1));
@@ -145,13 +149,16 @@ fn is_handed_back(rt: HostRuntime) -> Result<(), Fail> {
 
 #[test]
 fn finds_no_such_node(rt: HostRuntime) -> Result<(), Fail> {
-    let host: ScanHost = TAIL.host(rt.alloc())?;
+    let host: ScanHost = KITE.host(rt.alloc())?;
     let first_two = Floor {
-        coordinates: &TAIL.coordinates[0..2],
-        ..TAIL
+        coordinates: &KITE.coordinates[0..2],
+        ..KITE
     };
     let two: TableHost = first_two.host(rt.alloc())?;
-    let (graph, two) = (graph_of(&host, &Gabriel), graph_of(&two, &Gabriel));
+    let (graph, two) = (
+        KeptGraph::new(&host, &Gabriel),
+        KeptGraph::new(&two, &Gabriel),
+    );
     let at_one = send(graph, graph, opened(graph, 0, 3)?)?;
     let lost = send(graph, two, at_one)?;
     assert_eq!(rt; Standing::of(lost), Standing::ended(2, 2, End::Unreachable));
@@ -166,8 +173,8 @@ fn finds_no_such_node(rt: HostRuntime) -> Result<(), Fail> {
 
 #[test]
 fn counts_to_the_last(rt: HostRuntime) -> Result<(), Fail> {
-    let host: ScanHost = TAIL.host(rt.alloc())?;
-    let graph = graph_of(&host, &Gabriel);
+    let host: ScanHost = KITE.host(rt.alloc())?;
+    let graph = KeptGraph::new(&host, &Gabriel);
     let mut record = opened(graph, 0, 3)?;
     record.total = 65_534;
     record = send(graph, graph, record)?;
@@ -179,9 +186,9 @@ fn counts_to_the_last(rt: HostRuntime) -> Result<(), Fail> {
 
 #[test]
 fn opens_or_refuses(rt: HostRuntime) -> Result<(), Fail> {
-    let mut host: TableHost = TAIL.host(rt.alloc())?;
+    let mut host: TableHost = KITE.host(rt.alloc())?;
     host.withdraw(2);
-    let graph = graph_of(&host, &Gabriel);
+    let graph = KeptGraph::new(&host, &Gabriel);
     assert_eq!(rt; refusal(opened(graph, 0, 3)), None);
     assert_eq!(rt; refusal(opened(graph, 4, 3)), Some(43));
     assert_eq!(rt; refusal(opened(graph, 0, 4)), Some(43));

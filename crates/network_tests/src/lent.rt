@@ -3,7 +3,7 @@ use crate::common::refusal;
 use network::list::LentList;
 use std::process::Abort;
 
-// Elements appended to a list of two places in turn, the refusal, and how many places are free then.
+// Elements appended to a list of two places in turn, the number of the refusal, which is what is tested, and how many places are free then.
 const ELEMENTS: [(u8, Option<u8>, usize); 4] = [
     (7, None, 1),
     (5, None, 0),

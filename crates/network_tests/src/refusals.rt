@@ -11,7 +11,7 @@ use network::network::Network;
 use network::types::{Carried, HopRecord, Refusal};
 use std::process::Abort;
 use std::test::Fail;
-use worked::TAIL;
+use worked::KITE;
 
 // A carry of at most one hop.
 fn carry<H: Switching, P: Planariser>(
@@ -34,7 +34,7 @@ fn check_line<H: Switching, P: Planariser>(
     assert_eq!(rt; refusal(network.collect(line)), Some(number));
 }
 
-// Openings in turn while node 1 is withdrawn: line, source, target, and the refusal.
+// Openings in turn while node 1 is withdrawn: line, source, target, and the number of the refusal, which is what is tested.
 const OPENINGS: [(u8, u8, u8, Option<u8>); 17] = [
     (16, 0, 3, Some(41)),
     (16, 200, 3, Some(41)),
@@ -124,7 +124,7 @@ fn check_idle<H: Switching, P: Planariser>(rt: &impl Abort, network: &mut Networ
     assert_eq!(rt; refusal(network.withdraw(1)), None);
 }
 
-// Checks every refusal on the tail's floor.
+// Checks every refusal on the kite.
 fn check_refusals<H: Switching, P: Planariser>(rt: &impl Abort, network: &mut Network<H, P>) {
     check_idle(rt, network);
     check_openings(rt, network);
@@ -138,16 +138,16 @@ fn check_refusals<H: Switching, P: Planariser>(rt: &impl Abort, network: &mut Ne
 
 #[test]
 fn refuses_in_order(rt: HostRuntime) -> Result<(), Fail> {
-    let mut scan = network_of::<ScanHost, _>(rt.alloc(), TAIL, Gabriel)?;
+    let mut scan = network_of::<ScanHost, _>(rt.alloc(), KITE, Gabriel)?;
     check_refusals(&rt, &mut scan);
-    let mut table = network_of::<TableHost, _>(rt.alloc(), TAIL, Relative)?;
+    let mut table = network_of::<TableHost, _>(rt.alloc(), KITE, Relative)?;
     check_refusals(&rt, &mut table);
     Ok(())
 }
 
 #[test]
 fn opens_on_sixteen_lines(rt: HostRuntime) -> Result<(), Fail> {
-    let mut network = network_of::<ScanHost, _>(rt.alloc(), TAIL, Gabriel)?;
+    let mut network = network_of::<ScanHost, _>(rt.alloc(), KITE, Gabriel)?;
     for line in 0..=15 {
         assert_eq!(rt; refusal(network.open(line, 0, 3)), None);
     }

@@ -1,5 +1,5 @@
 //! Runs to the end, within three sends for each kept link.
-use crate::common::{graph_of, refusal};
+use crate::common::refusal;
 use delivery::deliver;
 use face::packet::Refusal;
 use face::record::{Course, End, Link, Phase, Record};
@@ -15,7 +15,7 @@ use order::Place;
 use plane::Point;
 use std::process::Abort;
 use std::test::Fail;
-use worked::{CROWD, HALF_RING, TAIL, TAIL_AWAY};
+use worked::{ISLAND, KITE, MESH, RING};
 
 // A run from node 0: its target, how many links are kept, and its end after how many sends.
 #[derive(Clone, Copy)]
@@ -50,35 +50,35 @@ fn check_run<R: Reading, P: Planariser>(rt: &impl Abort, graph: KeptGraph<'_, R,
     );
 }
 
-const TAIL_GABRIEL: Run = Run {
+const KITE_GABRIEL: Run = Run {
     target: 3,
     kept: 4,
     total: 7,
     end: End::Delivered,
 };
 
-const TAIL_RELATIVE: Run = Run {
+const KITE_RELATIVE: Run = Run {
     target: 3,
     kept: 3,
     total: 3,
     end: End::Delivered,
 };
 
-const AWAY_GABRIEL: Run = Run {
+const ISLAND_GABRIEL: Run = Run {
     target: 3,
     kept: 3,
     total: 7,
     end: End::Unreachable,
 };
 
-const AWAY_RELATIVE: Run = Run {
+const ISLAND_RELATIVE: Run = Run {
     target: 3,
     kept: 2,
     total: 4,
     end: End::Unreachable,
 };
 
-const CROWD_GABRIEL: Run = Run {
+const MESH_GABRIEL: Run = Run {
     target: 8,
     kept: 12,
     total: 14,
@@ -87,25 +87,25 @@ const CROWD_GABRIEL: Run = Run {
 
 #[test]
 fn ends_in_time(rt: HostRuntime) -> Result<(), Fail> {
-    let tail: ScanHost = TAIL.host(rt.alloc())?;
-    check_run(&rt, graph_of(&tail, &Gabriel), TAIL_GABRIEL);
-    check_run(&rt, graph_of(&tail, &Relative), TAIL_RELATIVE);
-    let away: TableHost = TAIL_AWAY.host(rt.alloc())?;
-    check_run(&rt, graph_of(&away, &Gabriel), AWAY_GABRIEL);
-    check_run(&rt, graph_of(&away, &Relative), AWAY_RELATIVE);
-    let crowd: TableHost = CROWD.host(rt.alloc())?;
-    check_run(&rt, graph_of(&crowd, &Gabriel), CROWD_GABRIEL);
+    let kite: ScanHost = KITE.host(rt.alloc())?;
+    check_run(&rt, KeptGraph::new(&kite, &Gabriel), KITE_GABRIEL);
+    check_run(&rt, KeptGraph::new(&kite, &Relative), KITE_RELATIVE);
+    let island: TableHost = ISLAND.host(rt.alloc())?;
+    check_run(&rt, KeptGraph::new(&island, &Gabriel), ISLAND_GABRIEL);
+    check_run(&rt, KeptGraph::new(&island, &Relative), ISLAND_RELATIVE);
+    let mesh: TableHost = MESH.host(rt.alloc())?;
+    check_run(&rt, KeptGraph::new(&mesh, &Gabriel), MESH_GABRIEL);
     Ok(())
 }
 
-const HALF_RING_WHOLE: Run = Run {
+const RING_WHOLE: Run = Run {
     target: 5,
     kept: 5,
     total: 6,
     end: End::Delivered,
 };
 
-const HALF_RING_GAP: Run = Run {
+const RING_GAP: Run = Run {
     target: 5,
     kept: 3,
     total: 4,
@@ -114,23 +114,23 @@ const HALF_RING_GAP: Run = Run {
 
 // Checks runs round a gap, and with node 2 withdrawn.
 fn check_gap<H: Switching, P: Planariser>(rt: &impl Abort, host: &mut H, planariser: &P) {
-    check_run(rt, graph_of(host, planariser), HALF_RING_WHOLE);
+    check_run(rt, KeptGraph::new(host, planariser), RING_WHOLE);
     host.withdraw(2);
-    check_run(rt, graph_of(host, planariser), HALF_RING_GAP);
+    check_run(rt, KeptGraph::new(host, planariser), RING_GAP);
 }
 
 #[test]
 fn ends_at_a_gap(rt: HostRuntime) -> Result<(), Fail> {
-    let mut scan: ScanHost = HALF_RING.host(rt.alloc())?;
+    let mut scan: ScanHost = RING.host(rt.alloc())?;
     check_gap(&rt, &mut scan, &Gabriel);
-    let mut table: TableHost = HALF_RING.host(rt.alloc())?;
+    let mut table: TableHost = RING.host(rt.alloc())?;
     check_gap(&rt, &mut table, &Relative);
     Ok(())
 }
 
 const FIRST: Link = Link { from: 0, to: 1 };
 
-// The record of the packet from node 0 to node 3 of the tail's floor, not sent yet.
+// The record of the packet from node 0 to node 3 of the kite's floor, not sent yet.
 const OPENED: Record = Record {
     source: Node {
         number: 0,
@@ -154,7 +154,7 @@ const OPENED: Record = Record {
     end: End::UnderWay,
 };
 
-// Runs on the tail's floor with node 1 withdrawn: source, target, and the refusal.
+// Runs on the kite with node 1 withdrawn: source, target, and the number of the refusal, which is what is tested.
 const RUNS: [(u8, u8, Option<u8>); 8] = [
     (0, 3, None),
     (200, 3, Some(43)),
@@ -168,13 +168,16 @@ const RUNS: [(u8, u8, Option<u8>); 8] = [
 
 #[test]
 fn runs_or_refuses(rt: HostRuntime) -> Result<(), Fail> {
-    let mut host: ScanHost = TAIL.host(rt.alloc())?;
-    let gabriel = graph_of(&host, &Gabriel);
+    let mut host: ScanHost = KITE.host(rt.alloc())?;
+    let gabriel = KeptGraph::new(&host, &Gabriel);
     assert_eq!(rt; deliver(gabriel, 0, 3, 0), Ok(OPENED));
-    assert_eq!(rt; deliver(graph_of(&host, &Relative), 0, 3, 0), Ok(OPENED));
+    assert_eq!(rt;
+        deliver(KeptGraph::new(&host, &Relative), 0, 3, 0),
+        Ok(OPENED)
+    );
     assert_eq!(rt; came(deliver(gabriel, 2, 2, 0)), Ok((End::Delivered, 0)));
     host.withdraw(1);
-    let gabriel = graph_of(&host, &Gabriel);
+    let gabriel = KeptGraph::new(&host, &Gabriel);
     for (source, target, number) in RUNS {
         assert_eq!(rt; refusal(deliver(gabriel, source, target, 12)), number);
     }

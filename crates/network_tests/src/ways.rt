@@ -12,7 +12,7 @@ use network::network::Network;
 use std::alloc::Global;
 use std::process::Abort;
 use std::test::Fail;
-use worked::{Floor, HALF_RING, NoHost, TAIL, TAIL_AWAY};
+use worked::{Floor, ISLAND, KITE, NoHost, RING};
 
 // A packet from node 0: its target, the receivers of its hops, and its end.
 #[derive(Clone, Copy)]
@@ -76,8 +76,8 @@ const ALONG_THE_TAIL: Way = Way {
 
 #[test]
 fn delivers_where_a_way_is(rt: HostRuntime) -> Result<(), Fail> {
-    check_hosts(&rt, rt.alloc(), TAIL, Gabriel, ROUND_THE_TRIANGLE)?;
-    check_hosts(&rt, rt.alloc(), TAIL, Relative, ALONG_THE_TAIL)?;
+    check_hosts(&rt, rt.alloc(), KITE, Gabriel, ROUND_THE_TRIANGLE)?;
+    check_hosts(&rt, rt.alloc(), KITE, Relative, ALONG_THE_TAIL)?;
     Ok(())
 }
 
@@ -95,8 +95,8 @@ const THERE_AND_BACK: Way = Way {
 
 #[test]
 fn ends_where_no_way_is(rt: HostRuntime) -> Result<(), Fail> {
-    check_hosts(&rt, rt.alloc(), TAIL_AWAY, Gabriel, TWICE_ROUND)?;
-    check_hosts(&rt, rt.alloc(), TAIL_AWAY, Relative, THERE_AND_BACK)?;
+    check_hosts(&rt, rt.alloc(), ISLAND, Gabriel, TWICE_ROUND)?;
+    check_hosts(&rt, rt.alloc(), ISLAND, Relative, THERE_AND_BACK)?;
     Ok(())
 }
 
@@ -118,7 +118,7 @@ fn check_switched<H: Making + Drop, P: Planariser + Drop>(
     heap: Global,
     planariser: P,
 ) -> Result<(), NoHost> {
-    let mut network = network_of::<H, P>(heap, HALF_RING, planariser)?;
+    let mut network = network_of::<H, P>(heap, RING, planariser)?;
     check_way(rt, &mut network, ROUND_THE_GAP);
     assert_eq!(rt; refusal(network.withdraw(2)), None);
     check_way(rt, &mut network, BACK_FROM_THE_GAP);

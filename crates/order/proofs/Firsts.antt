@@ -1,10 +1,10 @@
 -- Keeping what comes before what is held keeps the first of those that none comes before
-use Rattle.std.proofs.Common.{◌≡◌, ℕ, ◌+◌, ◌<◌, Bool, true, false, cond, ◌⊎◌, List, [], ◌∷◌, ◌++◌, length, get_or, take, Some, Option, sym, refl, ap, ◌∙◌, subst, inl, inr, ⊎_elim, append_assoc, append-nil, arith, MatchOption}
+use Rattle.std.proofs.Common.{◌≡◌, ℕ, ◌+◌, ◌<◌, Bool, true, false, cond, ◌⊎◌, List, [], ◌∷◌, ◌++◌, length, get_or, take, Some, Option, sym, refl, ap, ◌∙◌, subst, inl, inr, ⊎_elim, append_assoc, append-nil, MatchOption}
 use Rattle.std.proofs.lemmas.List.{take_more}
 use Rattle.order.specs.Foremost.{held, foremost, offered, In, First}
 
 clash : true ≡ false → ⊥
-clash e = let z : ◌≡◌ {A = ℕ} 0 1 = cc in omega arith
+clash e = cc
 
 -- an order on the proper items, of which two may tie
 pub record Lawful {A : Type 0} (before : A → A → Bool) (proper : A → Type 0) : Type 0 where
@@ -129,7 +129,7 @@ module _ {A : Type 0} (before : A → A → Bool) (proper : A → Type 0) (lawfu
   foremost_is (y ∷ ys) x i all = (held before y ys, refl, held_first y ys all)
 
   pub foremost_first : (xs : List A) (w : A) → Proper xs → foremost before xs ≡ Some w → First before xs w
-  foremost_first [] w all e = let z : ◌≡◌ {A = ℕ} 0 1 = cc in absurd (omega arith)
+  foremost_first [] w all e = cc
   foremost_first (x ∷ xs) w all e =
       let same : held before x xs ≡ w = cc in
       subst (λ (v : A). First before (x ∷ xs) v) same (held_first x xs all)

@@ -65,7 +65,7 @@ pub same_sign : (y z m n : ℤ) → pos 0 <ℤ m → pos 0 <ℤ n → y *ℤ m �
 same_sign y z m n hm hn e = both_ways y z (λ h. div_pos (sym e) hn (mul_pos h hm)) (λ h. div_pos e hm (mul_pos h hn))
 
 clash : true ≡ false → ⊥
-clash e = let z : ◌≡◌ {A = ℕ} 0 1 = cc in omega arith
+clash e = cc
 
 -- in the frame of its start
 abbrev pub frame : Direction → Vector

@@ -26,12 +26,12 @@ abbrev pub rest : List ℤ → List ℤ
 rest [] = []
 rest (x ∷ ρ) = ρ
 
-abbrev pub slice_get : List ℤ → ℕ → ℤ
-slice_get ρ zero = first ρ
-slice_get ρ (suc i) = slice_get (rest ρ) i
+abbrev pub nth : List ℤ → ℕ → ℤ
+nth ρ zero = first ρ
+nth ρ (suc i) = nth (rest ρ) i
 
 abbrev pub den : E → List ℤ → ℤ
-den (var i) ρ = slice_get ρ i
+den (var i) ρ = nth ρ i
 den (lit c) ρ = c
 den (add a b) ρ = den a ρ +ℤ den b ρ
 den (mul a b) ρ = den a ρ *ℤ den b ρ
@@ -141,9 +141,9 @@ ev_times (node p q) r ρ =
     (ev_shift (times q r) ρ ∙ ap (λ z. first ρ *ℤ z) (ev_times q r ρ) ∙ sym (mul_assoc (first ρ) (ev q ρ) (ev r ρ)))
     ∙ sym (add_mul (ev p (rest ρ)) (first ρ *ℤ ev q ρ) (ev r ρ))
 
-ev_var : (i : ℕ) (ρ : List ℤ) → ev (varP i) ρ ≡ slice_get ρ i
+ev_var : (i : ℕ) (ρ : List ℤ) → ev (varP i) ρ ≡ nth ρ i
 ev_var zero ρ = +ℤ_idl (first ρ *ℤ pos 1) ∙ *ℤ_comm (first ρ) (pos 1) ∙ one_mul (first ρ)
-ev_var (suc i) ρ = ap₂ ◌+ℤ◌ (ev_var i (rest ρ)) (*ℤ-zero (first ρ)) ∙ +ℤ_idr (slice_get (rest ρ) i)
+ev_var (suc i) ρ = ap₂ ◌+ℤ◌ (ev_var i (rest ρ)) (*ℤ-zero (first ρ)) ∙ +ℤ_idr (nth (rest ρ) i)
 
 norm_sound : (e : E) (ρ : List ℤ) → ev (norm e) ρ ≡ den e ρ
 norm_sound (var i) ρ = ev_var i ρ

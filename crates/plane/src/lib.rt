@@ -31,7 +31,7 @@ fn gap(from: u16, to: u16) -> i64
     i64::from(to) - i64::from(from)
 }
 
-// The product of two gaps, which an `i64` always holds.
+// The product of two gaps, which an `i64` always holds; that of directions is another, since it widens.
 fn product(p: i64, q: i64) -> i64
     requires { (nat_abs p ≤ 65535) × (nat_abs q ≤ 65535) }
     ensures { result ≡ p *ℤ q }

@@ -48,29 +48,29 @@ impl From<Unmade> for NoHost {
     }
 }
 
-/// Six nodes in a half ring.
-pub const HALF_RING: Floor = Floor {
+/// Six nodes in a ring with a gap.
+pub const RING: Floor = Floor {
     name: "A",
     reach: 10,
     coordinates: &[(0, 10), (3, 18), (11, 20), (18, 17), (6, 5), (20, 10)],
 };
 
-/// A triangle with a tail.
-pub const TAIL: Floor = Floor {
+/// A triangle, and a node that hears one corner.
+pub const KITE: Floor = Floor {
     name: "B",
     reach: 8,
     coordinates: &[(0, 5), (6, 2), (6, 9), (13, 7)],
 };
 
-/// The same with the tail out of reach.
-pub const TAIL_AWAY: Floor = Floor {
+/// The same with that node out of reach.
+pub const ISLAND: Floor = Floor {
     name: "C",
     reach: 8,
     coordinates: &[(0, 5), (6, 2), (6, 9), (40, 7)],
 };
 
 /// Nine nodes that nearly all hear each other.
-pub const CROWD: Floor = Floor {
+pub const MESH: Floor = Floor {
     name: "D",
     reach: 13,
     coordinates: &[
@@ -86,8 +86,8 @@ pub const CROWD: Floor = Floor {
     ],
 };
 
-/// Eleven nodes round a middle.
-pub const MIDDLE: Floor = Floor {
+/// Eleven nodes.
+pub const WEB: Floor = Floor {
     name: "E",
     reach: 9,
     coordinates: &[

@@ -1,4 +1,4 @@
-ghost use Rattle.floor.specs.Rules.{blocking_of, lawful_rule, rule_of, name_of};
+ghost use Rattle.floor.specs.Rules.{blocking_of, lawful_rule, rule_number, rule_of, name_of};
 ghost use Rattle.std.specs.Prelude.{◌≡◌, Some};
 
 use super::Planariser;
@@ -46,13 +46,25 @@ impl TryFrom<u8> for Rule {
     }
 }
 
+/// The number of the planariser.
+impl From<Rule> for u8 {
+    ghost from_gives = { λ rule number. number ≡ rule_number rule };
+
+    fn from(rule: Rule) -> u8 {
+        match rule {
+            Rule::Gabriel => 1,
+            Rule::Relative => 2,
+        }
+    }
+}
+
 impl fmt::Display for Rule {
     ghost output = { λ rule. Some (name_of rule) };
 
     fn fmt<W: fmt::Write>(&self, f: &mut fmt::Formatter<W>) -> fmt::Result {
-        match self {
-            Rule::Gabriel => write!(f, "Gabriel"),
-            Rule::Relative => write!(f, "relative"),
-        }
+        f.write_str(match self {
+            Rule::Gabriel => "Gabriel",
+            Rule::Relative => "relative",
+        })
     }
 }

@@ -17,7 +17,7 @@ returns g c =
     let to = sym c.in-Some-Some.ensures' in
     let from_serves : p.serving ≡ true = search rules in
     let to_serves : q.serving ≡ true = search rules in
-    let seen = simp (c.view-view.ensures.0, c.view-view.ensures.1.0, c.view-view.ensures.1.1) at c.opened.ensures.value in
+    let seen = simp (c.node.ensures, c.view-view.ensures.host, c.view-view.ensures.planariser, c.view-view.ensures.number) at c.opened.ensures.value in
     let made : c.opened.result ≡ opened_from (node_at m s) (record { number = t; point = q.point }) (kept b (node_at m s).point (neighbours m s))
     = seen (target_apart m s t p q from to (g.met.R.Reading.mapped c.args.graph.host.now)) in
     let packet = c.take_up.ensures ∙ ap in_hand made in

@@ -2,10 +2,9 @@ use Rattle.std.proofs.Common.{◌&&◌, rules, tests}
 use Rattle.std.proofs.lemmas.Iterator.Consumers.{YieldsList-from_first}
 use Rattle.std.proofs.lemmas.Iterator.Search.{any_from_yields_List}
 use Rattle.floor.specs.declared.node.Node.{Node}
-use Rattle.floor.specs.Lists.{differ}
+use Rattle.floor.specs.Numbers.{differ}
 use Rattle.floor.specs.Meaning.{neighbours}
 use Rattle.host.specs.Remaining.{remaining_of}
-use Rattle.host.proofs.Asking.{asked_first}
 use Rattle.kept.proofs.links.KeptGraph.is_blocked.Goals as goal
 
 pub returns : goal.returns
@@ -14,5 +13,5 @@ returns g c =
     let v = c.args.v in
     let all = neighbours (g.R.Reading.meaning c.args.self.host.now) u.number in
     any_from_yields_List (λ (w : Node). differ w.number v.number && g.P.Planariser.blocking c.args.self.planariser.now u.point v.point w.point) c.any.new.self _ c.any.result c.any.ensures.ran
-    (YieldsList-from_first (λ x. x) (remaining_of g.R.Reading.meaning) all (search (rules, asked_first)))
+    (YieldsList-from_first (λ x. x) (remaining_of g.R.Reading.meaning) all c.of.ensures)
     (λ x b q k. search (rules, tests))
