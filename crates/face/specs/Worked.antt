@@ -74,8 +74,12 @@ pub record WorkedFloors : Type 0 where
   pub disc_out : gabriel (at 0 0) (at 4 3) (at 5 0) ≡ false
   pub lens : relative (at 0 0) (at 4 0) (at 2 3) ≡ true
   pub lens_not_disc : gabriel (at 0 0) (at 4 0) (at 2 3) ≡ false
+  pub ring_gabriel_links : kept_links gabriel ring ≡ 5
+  pub ring_relative_links : kept_links relative ring ≡ 5
   pub ring_gabriel : sent gabriel ring 0 5 ≡ told (4 ∷ 0 ∷ 1 ∷ 2 ∷ 3 ∷ 5 ∷ []) Delivered 6
   pub ring_relative : sent relative ring 0 5 ≡ told (4 ∷ 0 ∷ 1 ∷ 2 ∷ 3 ∷ 5 ∷ []) Delivered 6
+  pub broken_gabriel_links : kept_links gabriel broken_ring ≡ 3
+  pub broken_relative_links : kept_links relative broken_ring ≡ 3
   pub broken_gabriel : sent gabriel broken_ring 0 5 ≡ told (4 ∷ 0 ∷ 1 ∷ 0 ∷ []) Unreachable 4
   pub broken_relative : sent relative broken_ring 0 5 ≡ told (4 ∷ 0 ∷ 1 ∷ 0 ∷ []) Unreachable 4
   pub kite_gabriel_links : kept_links gabriel kite ≡ 4

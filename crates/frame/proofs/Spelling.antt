@@ -1,6 +1,7 @@
 -- Digits and the bytes that they spell.
-use Rattle.std.proofs.Common.{◌≡◌, ℕ, suc, ◌+◌, ◌*◌, ◌/◌, ◌%◌, ◌<◌, ◌≤◌, true, not, List, [], ◌∷◌, length, map, get_or, All, Ok, refl, ap, ◌∙◌, arith}
+use Rattle.std.proofs.Common.{◌≡◌, ℕ, suc, ◌+◌, ◌-◌, ◌*◌, ◌/◌, ◌%◌, ◌<◌, ◌≤◌, true, not, List, [], ◌∷◌, ◌++◌, length, map, drop, set, get_or, All, Ok, refl, ap, ◌∙◌, arith}
 use Rattle.std.proofs.Math.Bool.{not-not}
+use Rattle.std.proofs.lemmas.List.{drop_more, set_at, set-append_right}
 use Rattle.std.proofs.lemmas.List.Elements.{All-nil, All-cons, All-head, All-tail, All-same}
 use Rattle.std.proofs.lemmas.List.Sums.{prefix_len_is, prefix_len_passes}
 use Rattle.std.proofs.lemmas.Bool.Decides.{nat_tests}
@@ -96,6 +97,21 @@ paired_bytes (c ∷ d ∷ s) h =
     let high = worth_small c (first c (d ∷ s) h) in
     let low = worth_small d (first d s (rest c (d ∷ s) h)) in
     All-cons (λ b. b < 256) (worth c * 16 + worth d) (paired s) (omega arith) (paired_bytes s (rest d s (rest c (d ∷ s) h)))
+
+-- two characters over those behind a front of a text
+pub two_over :
+    (front s : List ℕ) (n m x y : ℕ) → length front ≡ n → n + 1 < length s → m ≡ n + 2 →
+    set (set (front ++ drop n s) n x) (n + 1) y ≡ front ++ x ∷ y ∷ drop m s
+two_over front s n m x y size h two =
+    let first = drop_more s n 0 (omega arith) in
+    let second = drop_more s (n + 1) 0 h in
+    let on : n + 1 + 1 ≡ m = omega arith in
+    let split : drop n s ≡ get_or s n 0 ∷ get_or s (n + 1) 0 ∷ drop m s = first ∙ ap (λ r. get_or s n 0 ∷ r) (second ∙ ap (λ k. get_or s (n + 1) 0 ∷ drop k s) on) in
+    let one : n + 1 - n ≡ 1 = omega arith in
+    ap (λ r. set (set (front ++ r) n x) (n + 1) y) split ∙
+    ap (λ r. set r (n + 1) y) (set_at front (get_or s n 0) (get_or s (n + 1) 0 ∷ drop m s) x n size) ∙
+    set-append_right front (x ∷ get_or s (n + 1) 0 ∷ drop m s) n (n + 1) y size (omega arith) ∙
+    ap (λ k. front ++ set (x ∷ get_or s (n + 1) 0 ∷ drop m s) k y) one
 
 -- the pairs of a line: the number that two digits spell, and that both are digits
 abbrev pub pair_worth : List ℕ → ℕ

@@ -4,7 +4,7 @@ ghost use Rattle.frame.specs.Digits.{digit, is_digit, worth, byte_digits, spelle
 ghost use Rattle.frame.specs.Lines.{told, held};
 
 use crate::fault::{LineFault, ShortBuffer};
-use crate::row::Row;
+use crate::row::{MOST_BYTES, Row};
 use std::marker::Model;
 
 /// The most characters that a line may have.
@@ -90,11 +90,11 @@ impl From<Digits<'_>> for Row {
 
     fn from(digits: Digits<'_>) -> Row {
         let (pairs, _) = digits.line.as_chunks::<2>();
-        let mut row = Row::new();
-        for [high, low] in pairs {
-            row.push(from_digit(*high) * 16 + from_digit(*low));
+        let mut bytes = [0; MOST_BYTES];
+        for (at, [high, low]) in pairs.iter().enumerate() {
+            bytes[at] = from_digit(*high) * 16 + from_digit(*low);
         }
-        row
+        Row::of(bytes, pairs.len())
     }
 }
 
@@ -118,7 +118,9 @@ pub fn write_row(row: &Row, buf: &mut [u8]) -> Result<usize, ShortBuffer>
     }
     // By places, since no clause says what a loop over `chunks_exact_mut(2)` leaves in the buffer.
     for (at, byte) in bytes.iter().enumerate() {
-        buf[2 * at..2 * at + 2].copy_from_slice(&spell(*byte));
+        let [high, low] = spell(*byte);
+        buf[2 * at] = high;
+        buf[2 * at + 1] = low;
     }
     Ok(size)
 }

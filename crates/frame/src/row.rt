@@ -1,5 +1,5 @@
 //! Frames as rows of bytes, the check byte last.
-ghost use Rattle.std.specs.Prelude.{◌≡◌, ◌<◌, ◌≤◌, [], ◌∷◌, ◌++◌, length, All};
+ghost use Rattle.std.specs.Prelude.{◌≡◌, ◌<◌, ◌≤◌, [], ◌∷◌, ◌++◌, length, take, All};
 ghost use Rattle.frame.specs.Frames.{body, by_kind, check, checked, frame_in};
 
 use crate::Frame;
@@ -8,7 +8,7 @@ use crate::fault::FrameFault;
 use std::marker::Model;
 
 /// The most bytes that a line can spell.
-const MOST_BYTES: usize = LONGEST / 2;
+pub const MOST_BYTES: usize = LONGEST / 2;
 
 // The first byte of each kind of frame.
 const MAP: u8 = 0x4d;
@@ -53,6 +53,14 @@ impl Row {
             bytes: [0; MOST_BYTES],
             count: 0,
         }
+    }
+
+    /// The row of the first so many bytes.
+    pub fn of(bytes: [u8; MOST_BYTES], count: usize) -> Row
+        requires { count ≤ MOST_BYTES }
+        ensures { result ≡ take count bytes }
+    {
+        Row { bytes, count }
     }
 
     /// Puts a byte behind the others.

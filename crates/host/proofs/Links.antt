@@ -1,5 +1,5 @@
 -- Who is among the neighbours of a node, which comes next, and what a switching alters.
-use Rattle.std.proofs.Common.{◌≡◌, ℕ, zero, suc, ◌+◌, ◌*◌, ◌<◌, ◌≤◌, Bool, true, false, cond, not, ◌&&◌, leb, ◌≢◌, List, [], ◌∷◌, set, ℤ, pos, Some, None, Option, sym, refl, ap, ◌∙◌, arith}
+use Rattle.std.proofs.Common.{◌≡◌, ℕ, zero, suc, ◌+◌, ◌*◌, ◌<◌, ◌≤◌, Bool, true, false, cond, not, ◌&&◌, leb, ◌≢◌, List, [], ◌∷◌, set, ℤ, pos, Some, None, Option, MatchOption, sym, refl, ap, ◌∙◌, arith}
 use lib.Signed.{le_z}
 use Rattle.std.proofs.lemmas.Bool.{eq-eqb, ne_eqb, false≢true}
 use Rattle.std.proofs.lemmas.Bool.Decides.{nat_tests}
@@ -177,3 +177,9 @@ linked_back reach i k (Some p) (Some q) =
 
 pub among_back : (m : Meaning) (i k : ℕ) → is_among (neighbours m i) k ≡ is_among (neighbours m k) i
 among_back m i k = among_is m i k ∙ linked_back m.reach i k (radio m i) (radio m k) ∙ sym (among_is m k i)
+
+-- what follows an option is said of none and of some
+pub through : {A : Type 0} (P : Option A → Type 0) (o : Option A) (Q : Type 0) (R : A → Type 0) (X : Type 0) → P o → MatchOption o Q R
+    → (P None → Q → X) → ((k : A) → P (Some k) → R k → X) → X
+through P None Q R X p m none some = none p m
+through P (Some k) Q R X p m none some = some k p m

@@ -47,8 +47,10 @@ impl<R: Reading> Iterator for Neighbours<'_, R> {
     ghost remaining = { item_count (remaining_of R.Reading.meaning) };
 
     fn next(&mut self) -> Option<Node> {
-        let node = self.host.next_neighbour(self.of, self.from)?;
-        self.from = node.number + 1;
-        Some(node)
+        let next = self.host.next_neighbour(self.of, self.from);
+        if let Some(node) = next {
+            self.from = node.number + 1;
+        }
+        next
     }
 }

@@ -29,8 +29,9 @@ impl Reading for ScanHost {
     }
 
     fn next_neighbour(&self, i: u8, j: u8) -> Option<Node> {
-        let k = (j..self.storey.count()).find(|k| self.storey.links(i, *k))?;
-        self.storey.node(k)
+        (j..self.storey.count())
+            .find(|k| self.storey.links(i, *k))
+            .and_then(|k| self.storey.node(k))
     }
 }
 

@@ -33,7 +33,7 @@ impl Reading for TableHost {
     }
 
     fn next_neighbour(&self, i: u8, j: u8) -> Option<Node> {
-        self.storey.node(self.rows.next(i, j)?)
+        self.rows.next(i, j).and_then(|k| self.storey.node(k))
     }
 }
 

@@ -163,6 +163,11 @@ module _ (b : Blocks) (m : Meaning) (i : ℕ) (sense : Sense) (start : Start) (t
   foremost_offered far rest h w f e =
       record { so_far = next_of rest h w false f e ∙ moved far w h f.made (filter clear rest); made = made_by w h f.made; apart = λ n has. f.apart n (inr has) }
 
+  -- what would be taken is what is then held
+  pub taken_held : (h : Option Bearing) (x : Bearing) → taken sooner_one h x ≡ true → offered sooner_one h x ≡ Some x
+  taken_held None x e = refl
+  taken_held (Some y) x e = ap (λ (s : Bool). Some (cond s x y)) e
+
   untaken : (h : Option Bearing) (x : Bearing) → taken sooner_one h x ≡ false → offered sooner_one h x ≡ h
   untaken None x e = clash e
   untaken (Some y) x e = ap (λ (s : Bool). Some (cond s x y)) e

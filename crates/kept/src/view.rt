@@ -68,7 +68,7 @@ impl<R: Reading, P: Planariser> Surroundings for View<'_, R, P> {
             if let Some(bearing) = bearing_of(sweep, w) {
                 // Whether the link is kept is asked last: it is a walk over all neighbours.
                 if keeper.would_take(&bearing) && !self.graph.is_blocked(here, w) {
-                    let _ = keeper.offer(bearing);
+                    let _ = keeper.replace(bearing);
                 }
             }
         }

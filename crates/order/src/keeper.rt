@@ -1,5 +1,5 @@
 //! An order, and a keeper of the foremost of what it is offered.
-ghost use Rattle.std.specs.Prelude.{◌≡◌, Bool, true, false, [], None, MatchOption};
+ghost use Rattle.std.specs.Prelude.{◌≡◌, Bool, true, false, [], Some, None, MatchOption};
 ghost use Rattle.order.specs.Foremost.{taken, offered, returned, foremost, In, First};
 
 /// What comes before what; two items may tie.
@@ -51,10 +51,18 @@ impl<T: Order> Keeper<T> {
         ensures back { result ≡ returned T.Order.before self.old.held x }
     {
         if self.would_take(&x) {
-            self.held.replace(x)
+            self.replace(x)
         } else {
             Some(x)
         }
+    }
+
+    /// Holds `x` in place of what is held, and hands that back: for what `would_take` was asked of before.
+    pub fn replace(&mut self, x: T) -> Option<T>
+        ensures after { self.new.held ≡ Some x }
+        ensures back { result ≡ self.old.held }
+    {
+        self.held.replace(x)
     }
 
     /// What is held at the end.

@@ -4,9 +4,9 @@ use Rattle.floor.specs.Meaning.{neighbours}
 use Rattle.host.specs.Remaining.{remaining_of}
 use Rattle.kept.specs.Kept.{blocked, node_at}
 use Rattle.kept.specs.declared.bearing.Bearing.{Bearing}
-use Rattle.order.specs.Foremost.{taken, offered}
+use Rattle.order.specs.Foremost.{taken}
 use Rattle.order.specs.Directions.{earlier}
-use Rattle.kept.proofs.Rounding.{ForemostBut, foremost_at_first, foremost_past, foremost_offered, foremost_untaken, blocked_there, given_there, given}
+use Rattle.kept.proofs.Rounding.{ForemostBut, foremost_at_first, foremost_past, foremost_offered, foremost_untaken, taken_held, blocked_there, given_there, given}
 use Rattle.kept.proofs.view.ViewSurroundings.first.Goals as goal
 use Rattle.kept.proofs.view.ViewSurroundings.first.Goals.{else-would_take-via-then-would_take+else-not-is_blocked, else-would_take-via-else-would_take}
 
@@ -32,8 +32,11 @@ loop-w-preserved-then-not-is_blocked g c =
     let found : Some c.in-Some-bearing_of.bearing ≡ Some (given b m i c.args.sense c.args.start c.args.towards w) = sym c.in-Some-bearing_of.is ∙ bearing in
     let same : c.in-Some-bearing_of.bearing ≡ given b m i c.args.sense c.args.start c.args.towards w = cc in
     let free : blocked b (node_at m i).point w (neighbours m i) ≡ false = sym (blocked_there b m i w c.node-here.result c.is_blocked.result c.node-here.ensures c.is_blocked.ensures) ∙ c.if-not-is_blocked.true in
+    let first : taken (λ (x y : Bearing). earlier x.direction y.direction) c.loop-w.keeper.held (given b m i c.args.sense c.args.start c.args.towards w) ≡ true =
+    sym (c.would_take.ensures ∙ ap (taken (λ (x y : Bearing). earlier x.direction y.direction) c.loop-w.keeper.held) same) ∙ c.if-would_take.true in
     subst (ForemostBut b m i c.args.sense c.args.start c.args.towards (remaining_of g.R.Reading.meaning c.next.new.self))
-    (sym (c.offer.ensures.after ∙ ap (offered (λ (x y : Bearing). earlier x.direction y.direction) c.loop-w.keeper.held) same))
+    (sym (c.replace.ensures.after ∙ ap (λ (x : Bearing). Some x) same
+    ∙ sym (taken_held b m i c.args.sense c.args.start c.args.towards c.loop-w.keeper.held (given b m i c.args.sense c.args.start c.args.towards w) first)))
     (foremost_offered b m i c.args.sense c.args.start c.args.towards far _ _ w held free)
 
 pub loop-w-preserved-else-would_take : goal.loop-w-preserved-else-would_take
